@@ -1,0 +1,15 @@
+//! The plain types of the world, which every other crate names: entities, values, the registry of types,
+//! sets of types, versions, and the small lists that contracts see as lists.
+#![tactic(auto)]
+
+mod entity;
+mod memory;
+mod sequence;
+mod steps;
+mod value;
+
+pub use entity::{Entity, TypeId};
+pub use memory::Memory;
+pub use sequence::Sequence;
+pub use steps::Steps;
+pub use value::{Part, Parts, Value, Values};
