@@ -4,12 +4,14 @@
 
 mod entity;
 mod memory;
+mod name;
 mod sequence;
 mod steps;
 mod value;
 
 pub use entity::{Entity, TypeId};
 pub use memory::Memory;
+pub use name::{LONGEST_NAME, Name};
 pub use sequence::Sequence;
 pub use steps::Steps;
 pub use value::{Part, Parts, Value, Values};
