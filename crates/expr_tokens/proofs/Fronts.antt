@@ -49,11 +49,11 @@ word_bytes (b ∷ bytes) h =
     let first : is_name_byte b ≡ true = start_is_name b both.0 in
     rw (first, both.1) refl
 
-word_start : (bytes : List ℕ) → is_word bytes ≡ true → is_name_start (get_or bytes 0 0) ≡ true
+pub word_start : (bytes : List ℕ) → is_word bytes ≡ true → is_name_start (get_or bytes 0 0) ≡ true
 word_start [] h = absurd (false≢true h)
 word_start (b ∷ bytes) h = (and_parts (is_name_start b) (list_all is_name_byte bytes) h).0
 
-digits_start : (bytes : List ℕ) → is_digits bytes ≡ true → is_ascii_digit (get_or bytes 0 0) ≡ true
+pub digits_start : (bytes : List ℕ) → is_digits bytes ≡ true → is_ascii_digit (get_or bytes 0 0) ≡ true
 digits_start [] h = absurd (false≢true h)
 digits_start (b ∷ bytes) h = (and_parts (is_ascii_digit b) (list_all is_ascii_digit bytes) h).0
 
@@ -69,14 +69,14 @@ as_digits : (bytes : List ℕ) → 0 < length bytes → list_all is_ascii_digit 
 as_digits [] some all = absurd (omega arith)
 as_digits (b ∷ bytes) some all = all
 
-start_no_digit : (b : ℕ) → is_name_start b ≡ true → is_ascii_digit b ≡ true → ⊥
+pub start_no_digit : (b : ℕ) → is_name_start b ≡ true → is_ascii_digit b ≡ true → ⊥
 start_no_digit b start digit = grind (arith, nat_tests)
 
 -- the first byte of a front is that of the text
-first_of : (m : ℕ) (bytes : List ℕ) → 0 < m → get_or (take m bytes) 0 0 ≡ get_or bytes 0 0
+pub first_of : (m : ℕ) (bytes : List ℕ) → 0 < m → get_or (take m bytes) 0 0 ≡ get_or bytes 0 0
 first_of m bytes some = get_or-take m bytes 0 0 some
 
-some_taken : (p : List ℕ → Bool) (m : ℕ) (bytes : List ℕ) → p [] ≡ false → p (take m bytes) ≡ true → 0 < m
+pub some_taken : (p : List ℕ → Bool) (m : ℕ) (bytes : List ℕ) → p [] ≡ false → p (take m bytes) ≡ true → 0 < m
 some_taken p zero bytes none passes = absurd (false≢true (sym none ∙ passes))
 some_taken p (suc m) bytes none passes = omega arith
 

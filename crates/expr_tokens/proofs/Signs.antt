@@ -30,28 +30,28 @@ lengths GreaterEqual = (lit< tt, lit≤ tt)
 lengths And = (lit< tt, lit≤ tt)
 lengths Or = (lit< tt, lit≤ tt)
 
--- a sign begins with no byte of a name or a number
-pub first_byte : (s : Sign) → (is_name_start (get_or (spelling s) 0 0) ≡ false) × (is_ascii_digit (get_or (spelling s) 0 0) ≡ false)
-first_byte Open = (refl, refl)
-first_byte Close = (refl, refl)
-first_byte Comma = (refl, refl)
-first_byte Dot = (refl, refl)
-first_byte Colon = (refl, refl)
-first_byte Plus = (refl, refl)
-first_byte Minus = (refl, refl)
-first_byte Times = (refl, refl)
-first_byte Divide = (refl, refl)
-first_byte Rest = (refl, refl)
-first_byte Not = (refl, refl)
-first_byte Assign = (refl, refl)
-first_byte Equal = (refl, refl)
-first_byte NotEqual = (refl, refl)
-first_byte Less = (refl, refl)
-first_byte LessEqual = (refl, refl)
-first_byte Greater = (refl, refl)
-first_byte GreaterEqual = (refl, refl)
-first_byte And = (refl, refl)
-first_byte Or = (refl, refl)
+-- a sign begins with no byte of a name or a number, and with no space
+pub first_byte : (s : Sign) → (is_name_start (get_or (spelling s) 0 0) ≡ false) × (is_ascii_digit (get_or (spelling s) 0 0) ≡ false) × (eqb (get_or (spelling s) 0 0) 32 ≡ false)
+first_byte Open = (refl, refl, refl)
+first_byte Close = (refl, refl, refl)
+first_byte Comma = (refl, refl, refl)
+first_byte Dot = (refl, refl, refl)
+first_byte Colon = (refl, refl, refl)
+first_byte Plus = (refl, refl, refl)
+first_byte Minus = (refl, refl, refl)
+first_byte Times = (refl, refl, refl)
+first_byte Divide = (refl, refl, refl)
+first_byte Rest = (refl, refl, refl)
+first_byte Not = (refl, refl, refl)
+first_byte Assign = (refl, refl, refl)
+first_byte Equal = (refl, refl, refl)
+first_byte NotEqual = (refl, refl, refl)
+first_byte Less = (refl, refl, refl)
+first_byte LessEqual = (refl, refl, refl)
+first_byte Greater = (refl, refl, refl)
+first_byte GreaterEqual = (refl, refl, refl)
+first_byte And = (refl, refl, refl)
+first_byte Or = (refl, refl, refl)
 
 -- what a sign at the front says of the first byte
 pub front_byte : (s : Sign) (m : ℕ) (bytes : List ℕ) → take m bytes ≡ spelling s → get_or bytes 0 0 ≡ get_or (spelling s) 0 0
@@ -96,12 +96,12 @@ pub single_sound : (a : ℕ) (s : Sign) → single_of a ≡ Some s → spelling 
 single_sound a s e = subst (IsSpelledAlone a) e (single_spelled a)
 
 -- what a spelling reads as
-abbrev read : List ℕ → Option Sign
+abbrev pub read : List ℕ → Option Sign
 read [] = None
 read (a ∷ []) = single_of a
 read (a ∷ b ∷ rest) = pair_of a b
 
-read_back : (s : Sign) → read (spelling s) ≡ Some s
+pub read_back : (s : Sign) → read (spelling s) ≡ Some s
 read_back Open = refl
 read_back Close = refl
 read_back Comma = refl

@@ -1,7 +1,7 @@
 //! From bytes to tokens.
-ghost use Rattle.std.specs.Prelude.{◌≡◌, ◌≢◌, ℕ, ◌+◌, ◌*◌, ◌^◌, ◌<◌, ◌≤◌, false, true, length, slice_index, min, map, All, IfOk, MatchOption};
+ghost use Rattle.std.specs.Prelude.{List, ◌≡◌, ◌≢◌, ℕ, ◌+◌, ◌*◌, ◌^◌, ◌<◌, ◌≤◌, false, true, length, slice_index, min, map, All, IfOk, MatchOption};
 ghost use Rattle.std.specs.Char.{is_ascii_digit};
-ghost use Rattle.expr_tokens.specs.Tokens.{AreTokens, Spans, number_value, IsLongest, BeginsNoSign, IsLongestSign, NoPair};
+ghost use Rattle.expr_tokens.specs.Tokens.{Placed, AreTokens, Spans, number_value, IsLongest, BeginsNoSign, IsLongestSign, NoPair};
 ghost use Rattle.ent_types.specs.Names.{is_name_start};
 ghost use Rattle.expr_tokens.specs.Seen.{seen, token_seen, belongs};
 
@@ -140,4 +140,74 @@ pub fn tokens(alloc: Global, text: &[u8]) -> Result<Vec<Lexeme<'_>>, Memory>
         }
     }
     Ok(out)
+}
+
+/// A text has one list of tokens: the law that callers cite.
+pub fn one_list()
+    ensures { (text : List ℕ) (ps qs : List Placed) → AreTokens 0 text ps → AreTokens 0 text qs → ps ≡ qs }
+{
+}
+
+#[cfg(test)]
+mod tests {
+    use super::*;
+    use std::test::Fail;
+
+    /// A lexeme as a test writes it down.
+    #[derive(Clone, Copy, PartialEq, Eq, Debug)]
+    enum Is {
+        Word(u32, usize),
+        Number(u32, u64),
+        Sign(u32, Sign),
+        Bad(u32),
+    }
+
+    fn is(lexeme: Lexeme<'_>) -> Is {
+        match lexeme.token {
+            Token::Word(bytes) => Is::Word(lexeme.at, bytes.len()),
+            Token::Number(n) => Is::Number(lexeme.at, n),
+            Token::Sign(s) => Is::Sign(lexeme.at, s),
+            Token::Bad => Is::Bad(lexeme.at),
+        }
+    }
+
+    fn reads(text: &str, wanted: &[Is]) -> Result<bool, Memory> {
+        if text.len() > 1024 {
+            return Ok(false);
+        }
+        let found = tokens(Global, text.as_bytes())?;
+        let mut same = found.len() == wanted.len();
+        for (lexeme, want) in found.iter().zip(wanted.iter()) {
+            if is(*lexeme) != *want {
+                same = false;
+            }
+        }
+        Ok(same)
+    }
+
+    #[test]
+    fn longest_tokens(rt: HostRuntime) -> Result<(), Fail> {
+        assert!(rt; reads("", &[])?);
+        assert!(rt; reads("   ", &[])?);
+        assert!(rt; reads("ab_1 7", &[Is::Word(0, 4), Is::Number(5, 7)])?);
+        assert!(rt; reads("7ab", &[Is::Number(0, 7), Is::Word(1, 2)])?);
+        assert!(rt; reads("===", &[Is::Sign(0, Sign::Equal), Is::Sign(2, Sign::Assign)])?);
+        assert!(rt; reads("!= !", &[Is::Sign(0, Sign::NotEqual), Is::Sign(3, Sign::Not)])?);
+        assert!(rt; reads("<=>=<>", &[Is::Sign(0, Sign::LessEqual), Is::Sign(2, Sign::GreaterEqual), Is::Sign(4, Sign::Less), Is::Sign(5, Sign::Greater)])?);
+        assert!(rt; reads("&&||", &[Is::Sign(0, Sign::And), Is::Sign(2, Sign::Or)])?);
+        assert!(rt; reads("(),.:+-*/%", &[Is::Sign(0, Sign::Open), Is::Sign(1, Sign::Close), Is::Sign(2, Sign::Comma), Is::Sign(3, Sign::Dot), Is::Sign(4, Sign::Colon), Is::Sign(5, Sign::Plus), Is::Sign(6, Sign::Minus), Is::Sign(7, Sign::Times), Is::Sign(8, Sign::Divide), Is::Sign(9, Sign::Rest)])?);
+        Ok(())
+    }
+
+    #[test]
+    fn numbers_and_bad_bytes(rt: HostRuntime) -> Result<(), Fail> {
+        assert!(rt; reads("9223372036854775807", &[Is::Number(0, 9_223_372_036_854_775_807)])?);
+        assert!(rt; reads("9223372036854775808", &[Is::Number(0, 9_223_372_036_854_775_808)])?);
+        assert!(rt; reads("99999999999999999999999", &[Is::Number(0, 9_223_372_036_854_775_808)])?);
+        assert!(rt; reads("0012", &[Is::Number(0, 12)])?);
+        assert!(rt; reads("a & b", &[Is::Word(0, 1), Is::Bad(2)])?);
+        assert!(rt; reads("a\tb", &[Is::Word(0, 1), Is::Bad(1)])?);
+        assert!(rt; reads("1.5$", &[Is::Number(0, 1), Is::Sign(1, Sign::Dot), Is::Number(2, 5), Is::Bad(3)])?);
+        Ok(())
+    }
 }
