@@ -75,12 +75,12 @@ one_front : (t u : Token) (n m : ℕ) (text : List ℕ) → Spans t n text → S
 one_front t u n m text first second =
     ⊎_elim
     (λ a. ⊎_elim
-      (λ b. let same : n ≡ m = omega (arith, b.longest n t a.within a.token, a.longest m u b.within b.token) in
-            (one_token t u n text a.token (subst (λ k. IsToken u (take k text)) (sym same) b.token), same))
-      (λ b. absurd (b.1.none n t a.within a.token)) (either u m text second))
+    (λ b. let same : n ≡ m = omega (arith, b.longest n t a.within a.token, a.longest m u b.within b.token) in
+    (one_token t u n text a.token (subst (λ k. IsToken u (take k text)) (sym same) b.token), same))
+    (λ b. absurd (b.1.none n t a.within a.token)) (either u m text second))
     (λ a. ⊎_elim
-      (λ b. absurd (a.1.none m u b.within b.token))
-      (λ b. (a.0 ∙ sym b.0, a.2 ∙ sym b.2)) (either u m text second))
+    (λ b. absurd (a.1.none m u b.within b.token))
+    (λ b. (a.0 ∙ sym b.0, a.2 ∙ sym b.2)) (either u m text second))
     (either t n text first)
 
 -- the byte at a token is no space
@@ -112,9 +112,9 @@ one_list (p ∷ ps) (q ∷ qs) from text (gap, n, next, rest) (gap', n', next', 
     let front = one_front p.token q.token n n' (drop gap text) next.token (subst (λ k. Spans q.token n' (drop k text)) (sym gaps) next'.token) in
     let places : p.at ≡ q.at = next.place ∙ ap (λ k. from + k) gaps ∙ sym next'.place in
     let moved : AreTokens (p.at + n) (drop n (drop gap text)) qs =
-          subst (λ k. AreTokens (p.at + n) (drop n (drop k text)) qs) (sym gaps)
-          (subst (λ k. AreTokens (p.at + k) (drop k (drop gap' text)) qs) (sym front.1)
-          (subst (λ at. AreTokens (at + n') (drop n' (drop gap' text)) qs) (sym places) rest')) in
+    subst (λ k. AreTokens (p.at + n) (drop n (drop k text)) qs) (sym gaps)
+    (subst (λ k. AreTokens (p.at + k) (drop k (drop gap' text)) qs) (sym front.1)
+    (subst (λ at. AreTokens (at + n') (drop n' (drop gap' text)) qs) (sym places) rest')) in
     let heads = same_placed p q front.0 places in
     let tails = one_list ps qs (p.at + n) (drop n (drop gap text)) rest moved in
     λ i. heads i ∷ tails i

@@ -145,8 +145,7 @@ pub fn tokens(alloc: Global, text: &[u8]) -> Result<Vec<Lexeme<'_>>, Memory>
 /// A text has one list of tokens: the law that callers cite.
 pub fn one_list()
     ensures { (text : List ℕ) (ps qs : List Placed) → AreTokens 0 text ps → AreTokens 0 text qs → ps ≡ qs }
-{
-}
+{}
 
 #[cfg(test)]
 mod tests {
@@ -162,7 +161,7 @@ mod tests {
         Bad(u32),
     }
 
-    fn is(lexeme: Lexeme<'_>) -> Is {
+    fn shown(lexeme: Lexeme<'_>) -> Is {
         match lexeme.token {
             Token::Word(bytes) => Is::Word(lexeme.at, bytes.len()),
             Token::Number(n) => Is::Number(lexeme.at, n),
@@ -178,7 +177,7 @@ mod tests {
         let found = tokens(alloc, text.as_bytes())?;
         let mut same = found.len() == wanted.len();
         for (lexeme, want) in found.iter().zip(wanted.iter()) {
-            if is(*lexeme) != *want {
+            if shown(*lexeme) != *want {
                 same = false;
             }
         }
@@ -191,23 +190,98 @@ mod tests {
         assert!(rt; reads(rt.alloc(), "   ", &[])?);
         assert!(rt; reads(rt.alloc(), "ab_1 7", &[Is::Word(0, 4), Is::Number(5, 7)])?);
         assert!(rt; reads(rt.alloc(), "7ab", &[Is::Number(0, 7), Is::Word(1, 2)])?);
-        assert!(rt; reads(rt.alloc(), "===", &[Is::Sign(0, Sign::Equal), Is::Sign(2, Sign::Assign)])?);
-        assert!(rt; reads(rt.alloc(), "!= !", &[Is::Sign(0, Sign::NotEqual), Is::Sign(3, Sign::Not)])?);
-        assert!(rt; reads(rt.alloc(), "<=>=<>", &[Is::Sign(0, Sign::LessEqual), Is::Sign(2, Sign::GreaterEqual), Is::Sign(4, Sign::Less), Is::Sign(5, Sign::Greater)])?);
-        assert!(rt; reads(rt.alloc(), "&&||", &[Is::Sign(0, Sign::And), Is::Sign(2, Sign::Or)])?);
-        assert!(rt; reads(rt.alloc(), "(),.:+-*/%", &[Is::Sign(0, Sign::Open), Is::Sign(1, Sign::Close), Is::Sign(2, Sign::Comma), Is::Sign(3, Sign::Dot), Is::Sign(4, Sign::Colon), Is::Sign(5, Sign::Plus), Is::Sign(6, Sign::Minus), Is::Sign(7, Sign::Times), Is::Sign(8, Sign::Divide), Is::Sign(9, Sign::Rest)])?);
+        assert!(rt;
+            reads(
+                rt.alloc(),
+                "===",
+                &[Is::Sign(0, Sign::Equal), Is::Sign(2, Sign::Assign)]
+            )?
+        );
+        assert!(rt;
+            reads(
+                rt.alloc(),
+                "!= !",
+                &[Is::Sign(0, Sign::NotEqual), Is::Sign(3, Sign::Not)]
+            )?
+        );
+        assert!(rt;
+            reads(
+                rt.alloc(),
+                "<=>=<>",
+                &[
+                    Is::Sign(0, Sign::LessEqual),
+                    Is::Sign(2, Sign::GreaterEqual),
+                    Is::Sign(4, Sign::Less),
+                    Is::Sign(5, Sign::Greater)
+                ]
+            )?
+        );
+        assert!(rt;
+            reads(
+                rt.alloc(),
+                "&&||",
+                &[Is::Sign(0, Sign::And), Is::Sign(2, Sign::Or)]
+            )?
+        );
+        assert!(rt;
+            reads(
+                rt.alloc(),
+                "(),.:+-*/%",
+                &[
+                    Is::Sign(0, Sign::Open),
+                    Is::Sign(1, Sign::Close),
+                    Is::Sign(2, Sign::Comma),
+                    Is::Sign(3, Sign::Dot),
+                    Is::Sign(4, Sign::Colon),
+                    Is::Sign(5, Sign::Plus),
+                    Is::Sign(6, Sign::Minus),
+                    Is::Sign(7, Sign::Times),
+                    Is::Sign(8, Sign::Divide),
+                    Is::Sign(9, Sign::Rest)
+                ]
+            )?
+        );
         Ok(())
     }
 
     #[test]
     fn numbers_and_bad_bytes(rt: HostRuntime) -> Result<(), Fail> {
-        assert!(rt; reads(rt.alloc(), "9223372036854775807", &[Is::Number(0, 9_223_372_036_854_775_807)])?);
-        assert!(rt; reads(rt.alloc(), "9223372036854775808", &[Is::Number(0, 9_223_372_036_854_775_808)])?);
-        assert!(rt; reads(rt.alloc(), "99999999999999999999999", &[Is::Number(0, 9_223_372_036_854_775_808)])?);
+        assert!(rt;
+            reads(
+                rt.alloc(),
+                "9223372036854775807",
+                &[Is::Number(0, 9_223_372_036_854_775_807)]
+            )?
+        );
+        assert!(rt;
+            reads(
+                rt.alloc(),
+                "9223372036854775808",
+                &[Is::Number(0, 9_223_372_036_854_775_808)]
+            )?
+        );
+        assert!(rt;
+            reads(
+                rt.alloc(),
+                "99999999999999999999999",
+                &[Is::Number(0, 9_223_372_036_854_775_808)]
+            )?
+        );
         assert!(rt; reads(rt.alloc(), "0012", &[Is::Number(0, 12)])?);
         assert!(rt; reads(rt.alloc(), "a & b", &[Is::Word(0, 1), Is::Bad(2)])?);
         assert!(rt; reads(rt.alloc(), "a\tb", &[Is::Word(0, 1), Is::Bad(1)])?);
-        assert!(rt; reads(rt.alloc(), "1.5$", &[Is::Number(0, 1), Is::Sign(1, Sign::Dot), Is::Number(2, 5), Is::Bad(3)])?);
+        assert!(rt;
+            reads(
+                rt.alloc(),
+                "1.5$",
+                &[
+                    Is::Number(0, 1),
+                    Is::Sign(1, Sign::Dot),
+                    Is::Number(2, 5),
+                    Is::Bad(3)
+                ]
+            )?
+        );
         Ok(())
     }
 }
