@@ -1,1 +1,5 @@
-
+pub mod Faults
+pub mod Fitting
+pub mod Grammar
+pub mod Meaning
+pub mod Scopes

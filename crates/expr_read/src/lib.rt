@@ -1,8 +1,12 @@
-//! The little language of scenarios: the trees that its texts mean.
+//! The little language of scenarios: its texts, and the trees that they mean.
 #![tactic(auto)]
 
+mod fault;
 mod tree;
+mod words;
 
+pub use fault::{ExprCause, ExprFault};
 pub use tree::{
     Assign, BinaryOp, CommandText, Expr, PartExpr, RefExpr, Switch, UnaryOp, ValueExpr, Variable,
 };
+pub use words::{Call, Change, FieldUse, Turn, TypeUse, Verb};

@@ -1,0 +1,34 @@
+-- What the names of a text stand for, where it stands.
+use Rattle.std.specs.Prelude.{ℕ, ◌≡◌, ◌<◌, List, Bool, true, false, Option, Some, None, IsTrue}
+use Rattle.ent_types.specs.declared.entity.TypeId.{TypeId}
+use Rattle.expr_read.specs.declared.tree.Variable.{Variable}
+use Rattle.expr_read.specs.declared.tree.RefExpr.{RefExpr}
+use Rattle.expr_read.specs.declared.words.Call.{Call}
+use Rattle.expr_read.specs.declared.words.FieldUse.{FieldUse}
+use Rattle.expr_read.specs.declared.words.TypeUse.{TypeUse}
+
+pub record Scope : Type 0 where
+  -- the variable of this name
+  pub variable : List ℕ → Option Variable
+  -- the call of this name that may stand here
+  pub call : List ℕ → Option Call
+  -- the reference that a name alone is: `null`, `self`, or, where the first argument is true, a made name
+  pub reference : Bool → List ℕ → Option RefExpr
+  -- the known type of this name
+  pub find : List ℕ → Option TypeId
+  -- the place of the type's field of this name, where it may be named so
+  pub field : FieldUse → TypeId → List ℕ → Option ℕ
+  -- whether some field of the type may be named so
+  pub has_field : FieldUse → TypeId → Bool
+  -- whether the type may be named so
+  pub allows : TypeUse → TypeId → Bool
+  -- whether some type that isn't in the list may be named so
+  pub has_type : TypeUse → List TypeId → Bool
+  -- whether the type is in the list
+  pub holds : List TypeId → TypeId → Bool
+  -- for each field of the type, in order, whether it is a ref field
+  pub refs : TypeId → List Bool
+  -- whether the type's field at this place is a ref field
+  pub is_ref : TypeId → ℕ → Bool
+  -- whether a command may make this name
+  pub is_new : List ℕ → Bool
