@@ -32,3 +32,8 @@ pub record Scope : Type 0 where
   pub is_ref : TypeId → ℕ → Bool
   -- whether a command may make this name
   pub is_new : List ℕ → Bool
+
+-- What the theory needs of a scope: each answer of one part has its answer in the other.
+pub record IsLawful (s : Scope) : Type 0 where
+  pub field_known : (role : FieldUse) (ty : TypeId) (f : List ℕ) (i : ℕ) → s.field role ty f ≡ Some i → s.has_field role ty ≡ true
+  pub field_there : (role : FieldUse) (ty : TypeId) → s.has_field role ty ≡ true → (f : List ℕ) × (i : ℕ) × (s.field role ty f ≡ Some i)

@@ -2,6 +2,7 @@
 #![tactic(auto)]
 
 mod fault;
+mod symbol;
 mod tree;
 mod words;
 

@@ -1,0 +1,214 @@
+-- A machine that reads tokens one by one: what it waits for is a stack of symbols, and what it has built another.
+use Rattle.std.specs.Prelude.{ℕ, zero, suc, ◌≡◌, ◌+◌, ◌<◌, ◌^◌, List, [], ◌∷◌, ◌++◌, Bool, true, false, not, ◌&&◌, ◌||◌, nat_lt, nat_eq, Option, Some, None, if◌then◌else◌, is_some, pos}
+use Rattle.ent_types.specs.declared.entity.TypeId.{TypeId}
+use Rattle.expr_tokens.specs.Tokens.{Token, word, number, sign, bad}
+use Rattle.expr_tokens.specs.declared.sign.Sign.{Sign}
+use Rattle.expr_tokens.specs.declared.sign.Sign.TheVariants.{Open, Close, Comma, Dot, Colon, Assign as Becomes}
+use Rattle.expr_read.specs.declared.symbol.Symbol.{Symbol}
+use Rattle.expr_read.specs.declared.symbol.Symbol.TheVariants as wait
+use Rattle.expr_read.specs.declared.symbol.Action.{Action}
+use Rattle.expr_read.specs.declared.symbol.Action.TheVariants as act
+use Rattle.expr_read.specs.declared.symbol.Built.{Built}
+use Rattle.expr_read.specs.declared.symbol.Built.TheVariants as built
+use Rattle.expr_read.specs.declared.tree.Expr.TheVariants as exprs
+use Rattle.expr_read.specs.declared.tree.RefExpr.{RefExpr}
+use Rattle.expr_read.specs.declared.tree.RefExpr.TheVariants as refs
+use Rattle.expr_read.specs.declared.tree.Variable.{Variable}
+use Rattle.expr_read.specs.declared.tree.UnaryOp.{UnaryOp}
+use Rattle.expr_read.specs.declared.tree.BinaryOp.{BinaryOp}
+use Rattle.expr_read.specs.declared.words.Call.{Call}
+use Rattle.expr_read.specs.declared.words.Call.TheVariants as calls
+use Rattle.expr_read.specs.declared.words.FieldUse.{FieldUse}
+use Rattle.expr_read.specs.declared.words.FieldUse.TheVariants.{Number as NumberField, Entity as EntityField, Looked, Assigned}
+use Rattle.expr_read.specs.declared.words.TypeUse.{TypeUse}
+use Rattle.expr_read.specs.declared.words.TypeUse.TheVariants.{Asked, Own}
+use Rattle.expr_read.specs.Fitting.{sign_of, operator_of, associates}
+use Rattle.expr_read.specs.Scopes.{Scope}
+
+-- the tails of the levels below a level
+abbrev pub tails : ℕ → ℕ → List Symbol
+tails zero depth = []
+tails (suc level) depth = tails level depth ++ wait.Tail level depth ∷ []
+
+abbrev pub when : {A : Type 0} → Bool → A → Option A
+when true x = Some x
+when false x = None
+
+-- the type of this name, if it passes the test
+abbrev pub kept : (TypeId → Bool) → Option TypeId → Option TypeId
+kept test None = None
+kept test (Some ty) = when (test ty) ty
+
+abbrev pub field_type : Scope → FieldUse → List ℕ → Option TypeId
+field_type s role name = kept (s.has_field role) (s.find name)
+
+abbrev pub type_by : Scope → TypeUse → List ℕ → Option TypeId
+type_by s role name = kept (s.allows role) (s.find name)
+
+-- what stands behind the opening parenthesis of a call
+abbrev pub arguments : Call → ℕ → List Symbol
+arguments (calls.Two op) d = wait.Level 5 d ∷ wait.Comma ∷ wait.Level 5 d ∷ wait.Close ∷ wait.Do (act.Binary op) ∷ []
+arguments calls.Pick d =
+    wait.Level 5 d ∷ wait.Comma ∷ wait.Level 5 d ∷ wait.Comma ∷ wait.Level 5 d ∷ wait.Close ∷ wait.Do act.Pick ∷ []
+arguments calls.Get d = wait.Ref false ∷ wait.Comma ∷ wait.TypeField Looked ∷ wait.Close ∷ wait.Do act.Get ∷ []
+arguments calls.Alive d = wait.Ref false ∷ wait.Close ∷ wait.Do act.Alive ∷ []
+arguments calls.Has d = wait.Ref false ∷ wait.Comma ∷ wait.Type Asked ∷ wait.Close ∷ wait.Do act.Has ∷ []
+arguments calls.Same d = wait.Ref false ∷ wait.Comma ∷ wait.Ref false ∷ wait.Close ∷ wait.Do act.Same ∷ []
+arguments calls.On d = wait.Type Own ∷ wait.Close ∷ wait.Do act.On ∷ []
+
+-- a value by the field's kind
+abbrev pub value_place : Bool → Symbol
+value_place true = wait.Ref false
+value_place false = wait.Level 5 0
+
+-- what stands behind a field's name
+abbrev pub behind_field : Scope → FieldUse → TypeId → ℕ → List Symbol
+behind_field s NumberField ty i = wait.Do (act.Own ty i) ∷ []
+behind_field s EntityField ty i = wait.Do (act.Ref (refs.Own ty i)) ∷ []
+behind_field s Looked ty i = wait.Do (act.Field ty i) ∷ []
+behind_field s Assigned ty i = wait.Do (act.Field ty i) ∷ wait.Becomes ∷ value_place (s.is_ref ty i) ∷ []
+
+-- each token in the place of a symbol: the symbols that it leaves, where it may begin what the symbol stands for
+abbrev pub map_some : {A B : Type 0} → (A → B) → Option A → Option B
+map_some f None = None
+map_some f (Some x) = Some (f x)
+
+abbrev pub begins_group : ℕ → ℕ → Option (List Symbol)
+begins_group limit d = when (nat_lt d limit) (wait.Level 5 (suc d) ∷ wait.Close ∷ [])
+
+abbrev pub begins_signed : ℕ → ℕ → Option UnaryOp → Option (List Symbol)
+begins_signed limit d None = None
+begins_signed limit d (Some op) = when (nat_lt d limit) (wait.Level 0 (suc d) ∷ wait.Do (act.Unary op) ∷ [])
+
+abbrev pub begins_named : ℕ → ℕ → Option Variable → Option TypeId → Option Call → Option (List Symbol)
+begins_named limit d v ty call =
+    when ((is_some v || is_some ty) || (is_some call && nat_lt d limit)) (wait.Named v ty call d ∷ [])
+
+abbrev pub begins_sign : ℕ → ℕ → Sign → Option (List Symbol)
+begins_sign limit d Open = begins_group limit d
+begins_sign limit d s = begins_signed limit d (sign_of s)
+
+abbrev pub take_operand : Scope → ℕ → ℕ → Token → Option (List Symbol)
+take_operand s limit d (number n) = when (nat_lt n (2 ^ 63)) (wait.Do (act.Number (pos n)) ∷ [])
+take_operand s limit d (sign g) = begins_sign limit d g
+take_operand s limit d (word name) = begins_named limit d (s.variable name) (field_type s NumberField name) (s.call name)
+take_operand s limit d bad = None
+
+abbrev pub take_operator : ℕ → ℕ → Option (BinaryOp × ℕ) → Option (List Symbol)
+take_operator level d None = None
+take_operator level d (Some (op, at)) =
+    when (nat_eq at level) (wait.Level level d ∷ wait.Do (act.Binary op) ∷ (if associates level then wait.Tail level d ∷ [] else []))
+
+abbrev pub take_call : ℕ → ℕ → Option Call → Option (List Symbol)
+take_call limit d None = None
+take_call limit d (Some c) = when (nat_lt d limit) (arguments c (suc d))
+
+abbrev pub take_named : ℕ → ℕ → Option TypeId → Option Call → Sign → Option (List Symbol)
+take_named limit d ty call Dot = map_some (λ t. wait.Field t NumberField ∷ []) ty
+take_named limit d ty call Open = take_call limit d call
+take_named limit d ty call g = None
+
+abbrev pub begins_ref : Option RefExpr → Option TypeId → Option (List Symbol)
+begins_ref plain ty = when (is_some plain || is_some ty) (wait.NamedRef plain ty ∷ [])
+
+abbrev pub take_sign : Symbol → Sign → Option (List Symbol)
+take_sign wait.Close Close = Some []
+take_sign wait.Comma Comma = Some []
+take_sign wait.Dot Dot = Some []
+take_sign wait.Becomes Becomes = Some []
+take_sign (wait.NamedRef plain ty) Dot = map_some (λ t. wait.Field t EntityField ∷ []) ty
+take_sign (wait.Colon index) Colon = Some (wait.Version index ∷ [])
+take_sign symbol g = None
+
+abbrev pub take_number : Symbol → ℕ → Option (List Symbol)
+take_number (wait.Ref made) n = when (nat_lt n (2 ^ 32)) (wait.Colon n ∷ [])
+take_number (wait.Version index) n =
+    when (nat_lt n (2 ^ 32)) (wait.Do (act.Ref (refs.Entity (record { index = index; version = n }))) ∷ [])
+take_number symbol n = None
+
+abbrev pub take_word : Scope → Symbol → List ℕ → Option (List Symbol)
+take_word s (wait.Field ty role) name = map_some (behind_field s role ty) (s.field role ty name)
+take_word s (wait.TypeField role) name = map_some (λ ty. wait.Dot ∷ wait.Field ty role ∷ []) (field_type s role name)
+take_word s (wait.Ref made) name = begins_ref (s.reference made name) (field_type s EntityField name)
+take_word s (wait.Type role) name = map_some (λ ty. wait.Do (act.Type ty) ∷ []) (type_by s role name)
+take_word s symbol name = None
+
+abbrev pub take_other : Scope → ℕ → Symbol → Token → Option (List Symbol)
+take_other s limit (wait.Tail level d) (sign g) = take_operator level d (operator_of g)
+take_other s limit (wait.Named v ty call d) (sign g) = take_named limit d ty call g
+take_other s limit symbol (sign g) = take_sign symbol g
+take_other s limit symbol (number n) = take_number symbol n
+take_other s limit symbol (word name) = take_word s symbol name
+take_other s limit symbol bad = None
+
+unfoldable pub take : Scope → ℕ → Symbol → Token → Option (List Symbol)
+take s limit (wait.Level level d) t = map_some (λ new. new ++ tails level d) (take_operand s limit d t)
+take s limit symbol t = take_other s limit symbol t
+
+-- a symbol that may stand for no token
+unfoldable pub may_end : Symbol → Bool
+may_end (wait.Tail level d) = true
+may_end (wait.Named v ty call d) = is_some v
+may_end (wait.NamedRef plain ty) = is_some plain
+may_end (wait.Do a) = true
+may_end symbol = false
+
+-- what a step of building makes of what was built before
+abbrev pub apply : Action → List Built → List Built
+apply (act.Number n) bs = built.Int (exprs.Number n) ∷ bs
+apply (act.Own ty i) bs = built.Int (exprs.Own ty i) ∷ bs
+apply (act.Ref r) bs = built.Ref r ∷ bs
+apply (act.Type ty) bs = built.Type ty ∷ bs
+apply (act.Field ty i) bs = built.Field ty i ∷ bs
+apply (act.Unary op) (built.Int e ∷ bs) = built.Int (exprs.Unary op e) ∷ bs
+apply (act.Binary op) (built.Int b ∷ built.Int a ∷ bs) = built.Int (exprs.Binary op a b) ∷ bs
+apply act.Pick (built.Int b ∷ built.Int a ∷ built.Int c ∷ bs) = built.Int (exprs.Pick c a b) ∷ bs
+apply act.Get (built.Field ty i ∷ built.Ref r ∷ bs) = built.Int (exprs.Get r ty i) ∷ bs
+apply act.Alive (built.Ref r ∷ bs) = built.Int (exprs.Alive r) ∷ bs
+apply act.Has (built.Type ty ∷ built.Ref r ∷ bs) = built.Int (exprs.Has r ty) ∷ bs
+apply act.Same (built.Ref q ∷ built.Ref r ∷ bs) = built.Int (exprs.Same r q) ∷ bs
+apply act.On (built.Type ty ∷ bs) = built.Int (exprs.On ty) ∷ bs
+apply a bs = []
+
+abbrev pub with_variable : Option Variable → List Built → List Built
+with_variable None bs = bs
+with_variable (Some v) bs = built.Int (exprs.Variable v) ∷ bs
+
+abbrev pub with_ref : Option RefExpr → List Built → List Built
+with_ref None bs = bs
+with_ref (Some r) bs = built.Ref r ∷ bs
+
+-- what a symbol that ends builds
+unfoldable pub ended : Symbol → List Built → List Built
+ended (wait.Named v ty call d) bs = with_variable v bs
+ended (wait.NamedRef plain ty) bs = with_ref plain bs
+ended (wait.Do a) bs = apply a bs
+ended symbol bs = bs
+
+pub record State : Type 0 where
+  pub waits : List Symbol
+  pub built : List Built
+
+abbrev pub onward : Option (List Symbol) → Bool → List Symbol → List Built → Option State → Option State
+onward (Some new) ends below bs later = Some (record { waits = new ++ below; built = bs })
+onward None true below bs later = later
+onward None false below bs later = None
+
+-- the first symbol that takes the token, behind others that may end
+unfoldable pub settle : Scope → ℕ → List Symbol → List Built → Token → Option State
+settle s limit [] bs t = None
+settle s limit (symbol ∷ below) bs t =
+    onward (take s limit symbol t) (may_end symbol) below bs (settle s limit below (ended symbol bs) t)
+
+unfoldable pub finish : List Symbol → List Built → Option (List Built)
+finish [] bs = Some bs
+finish (symbol ∷ below) bs = if may_end symbol then finish below (ended symbol bs) else None
+
+abbrev pub go_on : Option State → (State → Option (List Built)) → Option (List Built)
+go_on None f = None
+go_on (Some state) f = f state
+
+-- what the tokens build, if the stack takes them all and may end then
+unfoldable pub run : Scope → ℕ → List Symbol → List Built → List Token → Option (List Built)
+run s limit waits bs [] = finish waits bs
+run s limit waits bs (t ∷ ts) = go_on (settle s limit waits bs t) (λ state. run s limit state.waits state.built ts)

@@ -1,0 +1,90 @@
+//! What a reader still waits for, and what it has built.
+use crate::{BinaryOp, Call, Expr, FieldUse, RefExpr, TypeUse, UnaryOp, Variable};
+use ent_types::TypeId;
+
+/// A place of the grammar that the tokens to come have to fill.
+#[derive(Clone, Copy, Debug)]
+pub(crate) enum Symbol {
+    /// An expression of operators below the level, at a depth.
+    Level { level: u8, depth: u8 },
+    /// Perhaps operators of this level with their operands.
+    Tail { level: u8, depth: u8 },
+    /// What follows a name in an expression, by what the name may be.
+    Named {
+        variable: Option<Variable>,
+        ty: Option<TypeId>,
+        call: Option<Call>,
+        depth: u8,
+    },
+    /// `)`
+    Close,
+    /// `,`
+    Comma,
+    /// `.`
+    Dot,
+    /// `=`
+    Becomes,
+    /// A field of the type.
+    Field { ty: TypeId, role: FieldUse },
+    /// A type, a dot and a field.
+    TypeField(FieldUse),
+    /// A reference; `made` says whether a made name fits.
+    Ref { made: bool },
+    /// What follows a name in a reference, by what the name may be.
+    NamedRef {
+        plain: Option<RefExpr>,
+        ty: Option<TypeId>,
+    },
+    /// The colon behind an index.
+    Colon { index: u32 },
+    /// The version behind an index and a colon.
+    Version { index: u32 },
+    /// A type.
+    Type(TypeUse),
+    /// Nothing: a step of building.
+    Do(Action),
+}
+
+/// A step of building, from what was built last.
+#[derive(Clone, Copy, Debug)]
+pub(crate) enum Action {
+    /// A number.
+    Number(i64),
+    /// A field of the own row in an expression.
+    Own { ty: TypeId, field: u8 },
+    /// A reference.
+    Ref(RefExpr),
+    /// A type by itself.
+    Type(TypeId),
+    /// A type with a field.
+    Field { ty: TypeId, field: u8 },
+    /// A sign over the last expression.
+    Unary(UnaryOp),
+    /// An operator over the last two expressions.
+    Binary(BinaryOp),
+    /// `pick` over the last three.
+    Pick,
+    /// `get` over a reference and a field.
+    Get,
+    /// `alive` over a reference.
+    Alive,
+    /// `has` over a reference and a type.
+    Has,
+    /// `same` over two references.
+    Same,
+    /// `on` over a type.
+    On,
+}
+
+/// Something built.
+#[derive(Debug, Drop)]
+pub(crate) enum Built {
+    /// An expression.
+    Int(Expr),
+    /// A reference.
+    Ref(RefExpr),
+    /// A type.
+    Type(TypeId),
+    /// A type with a field.
+    Field { ty: TypeId, field: u8 },
+}
