@@ -1,3 +1,5 @@
 mod Complete
+mod ReadExprs
+mod ReadRefs
 mod Runs
 mod Takes
