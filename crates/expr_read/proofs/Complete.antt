@@ -69,7 +69,7 @@ operator_stops level g op is = by g is ∙ ap (stops_operator level) is ∙ le-l
   by g h = refl
 
 module _ (s : Scope) (lawful : IsLawful s) (limit : ℕ) where
-  stops_tail : (t : Syntax tail) (level d : ℕ) (us : List Token) → Fits s limit level d [] t → stops (suc level) us ≡ true → stops level (spell t us) ≡ true
+  pub stops_tail : (t : Syntax tail) (level d : ℕ) (us : List Token) → Fits s limit level d [] t → stops (suc level) us ≡ true → stops level (spell t us) ≡ true
   stops_tail stop level d us fits h = stops_weaker level us h
   stops_tail (more g op e t) level d us fits h = operator_stops level g op fits.0
 

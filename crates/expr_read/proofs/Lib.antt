@@ -3,3 +3,4 @@ mod ReadExprs
 mod ReadRefs
 mod Runs
 mod Takes
+mod Unique
