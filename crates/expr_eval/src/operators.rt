@@ -94,6 +94,7 @@ mod tests {
     use super::*;
 
     const LEAST: i64 = i64::MIN;
+
     const GREATEST: i64 = i64::MAX;
 
     /// Each operator at its ends: the operator, its operands and the value.

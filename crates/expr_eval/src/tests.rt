@@ -1,13 +1,13 @@
 //! Expressions on a row of their own and beside one other row.
 ghost use Rattle.std.specs.Prelude.{◌≡◌, Bool, true, false, not, Option, Some, None, if◌then◌else◌, pos, refl, ◌==◌, ◌&&◌, ℕ};
 ghost use Rattle.ent_types.specs.declared.value.Value.TheVariants.{Int, Ref};
+
 use crate::{Lookup, RowReader, eval, eval_ref};
 use ent_types::{Entity, TypeId, Value};
 use expr_read::{BinaryOp, Expr, RefExpr, UnaryOp, Variable};
 use sqlite_items::Boxed;
 use std::alloc::{AllocError, Global};
 use std::test::Fail;
-
 
 const ME: Entity = Entity {
     index: 4,
@@ -20,16 +20,23 @@ struct Row;
 
 impl RowReader for Row {
     ghost own_row = { λ _. record {
-        field = λ ty i. if i == 0 then Int (pos 5) else Ref (record { index = 4; version = 2 });
-        on = λ ty. not (ty.0 == 9);
-        me = record { index = 4; version = 2 };
-        item = 3; row = 7; frame = 11; n = 13;
+      field = λ ty i. if i == 0 then Int (pos 5) else Ref (record { index = 4; version = 2 });
+      on = λ ty. not (ty.0 == 9);
+      me = record { index = 4; version = 2 };
+      item = 3;
+      row = 7;
+      frame = 11;
+      n = 13;
     } };
 
     ghost has_field = { λ _ ty i. true };
 
     fn field(&self, _ty: TypeId, field: u8) -> Value {
-        if field == 0 { Value::Int(5) } else { Value::Ref(ME) }
+        if field == 0 {
+            Value::Int(5)
+        } else {
+            Value::Ref(ME)
+        }
     }
 
     fn on(&self, ty: TypeId) -> bool {
@@ -69,9 +76,9 @@ fn is_one(e: Entity) -> bool
 
 impl Lookup for One {
     ghost other_rows = { λ _. record {
-        value = λ e ty i. if e.index == 1 then Some (Int (pos 70)) else None;
-        has = λ e ty. e.index == 1;
-        alive = λ e. e.index == 1;
+      value = λ e ty i. if e.index == 1 then Some (Int (pos 70)) else None;
+      has = λ e ty. e.index == 1;
+      alive = λ e. e.index == 1;
     } };
 
     ghost can_read = { λ _ ty. true };
@@ -130,7 +137,12 @@ fn rows_and_lookups(rt: HostRuntime) -> Result<(), Fail> {
     assert_eq!(rt; eval(&Expr::Same(RefExpr::Me, THERE), &Row, &One), 0);
     assert_eq!(rt; eval(&Expr::On(TypeId(3)), &Row, &One), 1);
     assert_eq!(rt; eval(&Expr::On(TypeId(9)), &Row, &One), 0);
-    let sum = both(rt.alloc(), BinaryOp::Plus, Expr::Variable(Variable::Chunk), Expr::Variable(Variable::Row))?;
+    let sum = both(
+        rt.alloc(),
+        BinaryOp::Plus,
+        Expr::Variable(Variable::Chunk),
+        Expr::Variable(Variable::Row),
+    )?;
     let negated = Expr::Unary(UnaryOp::Minus, Boxed::new(rt.alloc(), sum)?);
     assert_eq!(rt; eval(&negated, &Row, &One), -10);
     assert_eq!(rt; eval_ref(&RefExpr::Me, &Row) == ME, true);
