@@ -73,7 +73,7 @@ module _ (s : Scope) (lawful : IsLawful s) (limit : ℕ) where
   stops_tail stop level d us fits h = stops_weaker level us h
   stops_tail (more g op e t) level d us fits h = operator_stops level g op fits.0
 
-  end_plain : (r : RefExpr) (ty : Option TypeId) (below : List Symbol) (bs : List Built) (us : List Token) → stops 0 us ≡ true
+  pub end_plain : (r : RefExpr) (ty : Option TypeId) (below : List Symbol) (bs : List Built) (us : List Token) → stops 0 us ≡ true
       → run s limit (wait.NamedRef (Some r) ty ∷ below) bs us ≡ run s limit below (built.Ref r ∷ bs) us
   unfolding may_end ended
   end_plain r ty below bs us h = run_end s limit (wait.NamedRef (Some r) ty) below bs us refl (named_ref_leaves s limit (Some r) ty 0 us h)
@@ -120,17 +120,17 @@ module _ (s : Scope) (lawful : IsLawful s) (limit : ℕ) where
       → run s limit (wait.Tail level d ∷ below) (built.Int left ∷ bs) (spell t us) ≡ run s limit below (built.Int ((meaning t) left) ∷ bs) us
 
   -- `(` of a call, its first argument begun
-  open_call : (c : Call) (d : ℕ) (name : List ℕ) (below : List Symbol) (bs : List Built) (ts : List Token) → d < limit → s.call name ≡ Some c
+  pub open_call : (c : Call) (d : ℕ) (name : List ℕ) (below : List Symbol) (bs : List Built) (ts : List Token) → d < limit → s.call name ≡ Some c
       → run s limit (wait.Named (s.variable name) (field_type s NumberField name) (s.call name) d ∷ below) bs (sign Open ∷ ts) ≡ run s limit (arguments c (suc d) ++ below) bs ts
   open_call c d name below bs ts h is = run_take s limit _ below bs (sign Open) ts _ (take_arguments s limit _ _ (s.call name) c d is h)
 
-  comma : (below : List Symbol) (bs : List Built) (ts : List Token) → run s limit (wait.Comma ∷ below) bs (sign Comma ∷ ts) ≡ run s limit below bs ts
+  pub comma : (below : List Symbol) (bs : List Built) (ts : List Token) → run s limit (wait.Comma ∷ below) bs (sign Comma ∷ ts) ≡ run s limit below bs ts
   comma below bs ts = run_take s limit wait.Comma below bs (sign Comma) ts [] (take_comma s limit)
 
-  close : (below : List Symbol) (bs : List Built) (ts : List Token) → run s limit (wait.Close ∷ below) bs (sign Close ∷ ts) ≡ run s limit below bs ts
+  pub close : (below : List Symbol) (bs : List Built) (ts : List Token) → run s limit (wait.Close ∷ below) bs (sign Close ∷ ts) ≡ run s limit below bs ts
   close below bs ts = run_take s limit wait.Close below bs (sign Close) ts [] (take_close s limit)
 
-  type_alone : (role : TypeUse) (t : List ℕ) (ty : TypeId) (below : List Symbol) (bs : List Built) (us : List Token) → FitsType s role t ty
+  pub type_alone : (role : TypeUse) (t : List ℕ) (ty : TypeId) (below : List Symbol) (bs : List Built) (us : List Token) → FitsType s role t ty
       → run s limit (wait.Type role ∷ below) bs (word t ∷ us) ≡ run s limit below (built.Type ty ∷ bs) us
   type_alone role t ty below bs us fits = run_take s limit (wait.Type role) below bs (word t) us _ (take_type s limit role t ty fits) ∙ run_do s limit _ below bs us
 
@@ -156,7 +156,7 @@ module _ (s : Scope) (lawful : IsLawful s) (limit : ℕ) where
           ∙ front l d (wait.Tail l d ∷ below) bs (spell t us) fits.0 (stops_tail t l d us fits.1 h)
           ∙ back l d below bs us (meaning e) fits.1 h ]
 
-  stop_tail : (level d : ℕ) (below : List Symbol) (bs : List Built) (us : List Token) → stops (suc level) us ≡ true
+  pub stop_tail : (level d : ℕ) (below : List Symbol) (bs : List Built) (us : List Token) → stops (suc level) us ≡ true
       → run s limit (wait.Tail level d ∷ below) bs us ≡ run s limit below bs us
   unfolding may_end ended
   stop_tail level d below bs us h = run_end s limit (wait.Tail level d) below bs us refl (tail_leaves s limit level d us h)

@@ -1,6 +1,10 @@
 mod Complete
+mod Completions
+mod Keeps
+mod Prefixes
 mod ReadExprs
 mod ReadRefs
 mod Runs
 mod Takes
 mod Unique
+mod Whole

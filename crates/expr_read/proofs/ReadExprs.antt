@@ -46,7 +46,7 @@ module _ (s : Scope) (limit : ℕ) where
     by_number : (n : ℕ) → t ≡ numeral n → n < 2 ^ 63 → wait.Do (act.Number (pos n)) ∷ [] ≡ new → Begun d t new
     by_open : t ≡ sign Open → d < limit → wait.Level 5 (suc d) ∷ wait.Close ∷ [] ≡ new → Begun d t new
     by_sign : (g : Sign) (op : UnaryOp) → t ≡ sign g → d < limit → sign_of g ≡ Some op → wait.Level 0 (suc d) ∷ wait.Do (act.Unary op) ∷ [] ≡ new → Begun d t new
-    by_name : (name : List ℕ) → t ≡ word name → wait.Named (s.variable name) (field_type s NumberField name) (s.call name) d ∷ [] ≡ new → Begun d t new
+    by_name : (name : List ℕ) → t ≡ word name → ((is_some (s.variable name) || is_some (field_type s NumberField name)) || (is_some (s.call name) && nat_lt d limit)) ≡ true → wait.Named (s.variable name) (field_type s NumberField name) (s.call name) d ∷ [] ≡ new → Begun d t new
 
   signed_inv : (d : ℕ) (g : Sign) (o : Option UnaryOp) (new : List Symbol) → sign_of g ≡ o → begins_signed limit d o ≡ Some new → Begun d (sign g) new
   signed_inv d g None new e h = absurd cc
@@ -56,13 +56,13 @@ module _ (s : Scope) (limit : ℕ) where
   sign_inv d Open new h = let w = when_inv (nat_lt d limit) _ new h in by_open refl (ltb-true d limit w.0) w.1
   sign_inv d g new h = signed_inv d g (sign_of g) new refl h
 
-  begun : (d : ℕ) (t : Token) (new : List Symbol) → take_operand s limit d t ≡ Some new → Begun d t new
+  pub begun : (d : ℕ) (t : Token) (new : List Symbol) → take_operand s limit d t ≡ Some new → Begun d t new
   begun d bad new h = absurd cc
   begun d (numeral n) new h = let w = when_inv (nat_lt n (2 ^ 63)) _ new h in by_number n refl (ltb-true n (2 ^ 63) w.0) w.1
   begun d (sign g) new h = sign_inv d g new h
   begun d (word name) new h =
       let w = when_inv ((is_some (s.variable name) || is_some (field_type s NumberField name)) || (is_some (s.call name) && nat_lt d limit)) _ new h in
-      by_name name refl w.1
+      by_name name refl w.0 w.1
 
   -- how a name may go on
   pub data Followed (ty : Option TypeId) (call : Option Call) (d : ℕ) (t : Token) (new : List Symbol) : Type 0 where
@@ -73,7 +73,7 @@ module _ (s : Scope) (limit : ℕ) where
   call_inv ty None d new h = absurd cc
   call_inv ty (Some c) d new h = let w = when_inv (nat_lt d limit) _ new h in by_call c refl refl (ltb-true d limit w.0) w.1
 
-  followed : (v : Option Variable) (ty : Option TypeId) (call : Option Call) (d : ℕ) (t : Token) (new : List Symbol)
+  pub followed : (v : Option Variable) (ty : Option TypeId) (call : Option Call) (d : ℕ) (t : Token) (new : List Symbol)
       → take s limit (wait.Named v ty call d) t ≡ Some new → Followed ty call d t new
   unfolding take
   followed v ty call d (word name) new h = absurd cc
@@ -229,7 +229,7 @@ module _ (s : Scope) (limit : ℕ) where
   unfolding may_end
   never_level level d = refl
 
-  level_takes : (d : ℕ) (t : Token) (new : List Symbol) → take s limit (wait.Level 0 d) t ≡ Some new → (begins : List Symbol) × (take_operand s limit d t ≡ Some begins) × (begins ++ [] ≡ new)
+  pub level_takes : (d : ℕ) (t : Token) (new : List Symbol) → take s limit (wait.Level 0 d) t ≡ Some new → (begins : List Symbol) × (take_operand s limit d t ≡ Some begins) × (begins ++ [] ≡ new)
   unfolding take
   level_takes d t new h = map_inv (λ x. x ++ []) (take_operand s limit d t) new h
 
@@ -263,7 +263,7 @@ module _ (s : Scope) (limit : ℕ) where
           tree = signed g op o.tree; fits = (deep, known, o.fits); rest = o.rest; tokens = whole ∙ ap (λ x. sign g ∷ x) o.tokens;
           shorter = omega (arith, o.shorter, ap length whole); built = _; goes_on = sym (run_do s limit _ below o.built o.rest) ∙ o.goes_on;
         }
-    goes t new closed (by_name name is leaves) =
+    goes t new closed (by_name name is may leaves) =
         let whole : ts ≡ word name ∷ t.rest = t.tokens ∙ ap (λ x. x ∷ t.rest) is in
         let on = left s limit below bs t.rest ws (wait.Named (s.variable name) (field_type s NumberField name) (s.call name) d ∷ []) t.new (ap (λ x. x ++ []) leaves ∙ closed) t.goes_on in
         let x = name_read n ih d name below bs t.rest ws (omega (arith, ap length whole)) on in
@@ -286,7 +286,7 @@ module _ (s : Scope) (limit : ℕ) where
       let w = when_inv (nat_eq at level) _ new h in
       record { g = g; op = op; token = refl; known = e ∙ ap (λ k. Some (op, k)) (eqb-true at level w.0); leaves = w.1 }
 
-  operated : (level d : ℕ) (t : Token) (new : List Symbol) → take s limit (wait.Tail level d) t ≡ Some new → Operated level d t new
+  pub operated : (level d : ℕ) (t : Token) (new : List Symbol) → take s limit (wait.Tail level d) t ≡ Some new → Operated level d t new
   unfolding take
   operated level d (word name) new h = absurd cc
   operated level d (numeral n) new h = absurd cc

@@ -194,7 +194,7 @@ module _ (s : Scope) (limit : ℕ) where
   abbrev pub ReadRef : Bool → List Symbol → List Token → List Built → Type 0
   ReadRef made = Read {Tree = Ref} (FitsRef s made) spell_ref
 
-  dot_inv : (p : Option RefExpr) (ty : Option TypeId) (t : Token) (new : List Symbol) → take s limit (wait.NamedRef p ty) t ≡ Some new → (t ≡ sign Dot) × (map_some (λ u. wait.Field u EntityField ∷ []) ty ≡ Some new)
+  pub dot_inv : (p : Option RefExpr) (ty : Option TypeId) (t : Token) (new : List Symbol) → take s limit (wait.NamedRef p ty) t ≡ Some new → (t ≡ sign Dot) × (map_some (λ u. wait.Field u EntityField ∷ []) ty ≡ Some new)
   unfolding take
   dot_inv p ty (word n) new h = absurd cc
   dot_inv p ty (numeral n) new h = absurd cc
@@ -240,16 +240,17 @@ module _ (s : Scope) (limit : ℕ) where
   pub record BeginsName (made : Bool) (t : Token) (new : List Symbol) : Type 0 where
     pub name : List ℕ
     pub token : t ≡ word name
+    pub may : (is_some (s.reference made name) || is_some (field_type s EntityField name)) ≡ true
     pub leaves : wait.NamedRef (s.reference made name) (field_type s EntityField name) ∷ [] ≡ new
 
-  ref_inv : (made : Bool) (t : Token) (new : List Symbol) → take s limit (wait.Ref made) t ≡ Some new → BeginsNumber t new (λ n. wait.Colon n ∷ []) ⊎ BeginsName made t new
+  pub ref_inv : (made : Bool) (t : Token) (new : List Symbol) → take s limit (wait.Ref made) t ≡ Some new → BeginsNumber t new (λ n. wait.Colon n ∷ []) ⊎ BeginsName made t new
   unfolding take
   ref_inv made (sign g) new h = absurd cc
   ref_inv made bad new h = absurd cc
   ref_inv made (numeral n) new h = let w = when_inv (nat_lt n (2 ^ 32)) (wait.Colon n ∷ []) new h in inl (record { n = n; token = refl; small = ltb-true n (2 ^ 32) w.0; leaves = w.1 })
-  ref_inv made (word name) new h = let w = when_inv (is_some (s.reference made name) || is_some (field_type s EntityField name)) _ new h in inr (record { name = name; token = refl; leaves = w.1 })
+  ref_inv made (word name) new h = let w = when_inv (is_some (s.reference made name) || is_some (field_type s EntityField name)) _ new h in inr (record { name = name; token = refl; may = w.0; leaves = w.1 })
 
-  colon_inv : (i : ℕ) (t : Token) (new : List Symbol) → take s limit (wait.Colon i) t ≡ Some new → (t ≡ sign Colon) × (wait.Version i ∷ [] ≡ new)
+  pub colon_inv : (i : ℕ) (t : Token) (new : List Symbol) → take s limit (wait.Colon i) t ≡ Some new → (t ≡ sign Colon) × (wait.Version i ∷ [] ≡ new)
   unfolding take
   colon_inv i (word n) new h = absurd cc
   colon_inv i (numeral n) new h = absurd cc
@@ -257,7 +258,7 @@ module _ (s : Scope) (limit : ℕ) where
   colon_inv i (sign Colon) new h = (refl, cc)
   colon_inv i (sign g) new h = absurd cc
 
-  version_inv : (i : ℕ) (t : Token) (new : List Symbol) → take s limit (wait.Version i) t ≡ Some new → BeginsNumber t new (λ n. wait.Do (act.Ref (refs.Entity (record { index = i; version = n }))) ∷ [])
+  pub version_inv : (i : ℕ) (t : Token) (new : List Symbol) → take s limit (wait.Version i) t ≡ Some new → BeginsNumber t new (λ n. wait.Do (act.Ref (refs.Entity (record { index = i; version = n }))) ∷ [])
   unfolding take
   version_inv i (word n) new h = absurd cc
   version_inv i (sign g) new h = absurd cc

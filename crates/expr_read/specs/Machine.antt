@@ -208,7 +208,16 @@ abbrev pub go_on : Option State → (State → Option (List Built)) → Option (
 go_on None f = None
 go_on (Some state) f = f state
 
+abbrev pub and_then : Option State → (State → Option State) → Option State
+and_then None f = None
+and_then (Some state) f = f state
+
 -- what the tokens build, if the stack takes them all and may end then
 unfoldable pub run : Scope → ℕ → List Symbol → List Built → List Token → Option (List Built)
 run s limit waits bs [] = finish waits bs
 run s limit waits bs (t ∷ ts) = go_on (settle s limit waits bs t) (λ state. run s limit state.waits state.built ts)
+
+-- where the machine stands after some tokens, if it takes them all
+unfoldable pub steps : Scope → ℕ → State → List Token → Option State
+steps s limit state [] = Some state
+steps s limit state (t ∷ ts) = and_then (settle s limit state.waits state.built t) (λ next. steps s limit next ts)

@@ -1,10 +1,14 @@
 -- What the names of a text stand for, where it stands.
-use Rattle.std.specs.Prelude.{ℕ, ◌≡◌, ◌<◌, List, Bool, true, false, Option, Some, None, IsTrue}
+use Rattle.std.specs.Prelude.{ℕ, ◌≡◌, ◌<◌, List, Bool, true, false, Option, Some, codes}
 use Rattle.ent_types.specs.declared.entity.TypeId.{TypeId}
 use Rattle.expr_read.specs.declared.tree.Variable.{Variable}
 use Rattle.expr_read.specs.declared.tree.RefExpr.{RefExpr}
 use Rattle.expr_read.specs.declared.words.Call.{Call}
+use Rattle.expr_read.specs.declared.words.Call.TheVariants.{Get, Has, On}
+use Rattle.expr_read.specs.declared.tree.RefExpr.TheVariants.{Null}
 use Rattle.expr_read.specs.declared.words.FieldUse.{FieldUse}
+use Rattle.expr_read.specs.declared.words.FieldUse.TheVariants.{Looked}
+use Rattle.expr_read.specs.declared.words.TypeUse.TheVariants.{Asked, Own}
 use Rattle.expr_read.specs.declared.words.TypeUse.{TypeUse}
 
 pub record Scope : Type 0 where
@@ -37,3 +41,9 @@ pub record Scope : Type 0 where
 pub record IsLawful (s : Scope) : Type 0 where
   pub field_known : (role : FieldUse) (ty : TypeId) (f : List ℕ) (i : ℕ) → s.field role ty f ≡ Some i → s.has_field role ty ≡ true
   pub field_there : (role : FieldUse) (ty : TypeId) → s.has_field role ty ≡ true → (f : List ℕ) × (i : ℕ) × (s.field role ty f ≡ Some i)
+  -- `null` is a reference everywhere
+  pub null : (made : Bool) → s.reference made (codes "null") ≡ Some Null
+  -- a call that may stand has types to name
+  pub looked : (name : List ℕ) → s.call name ≡ Some Get → (t : List ℕ) × (ty : TypeId) × (s.find t ≡ Some ty) × (s.has_field Looked ty ≡ true)
+  pub asked : (name : List ℕ) → s.call name ≡ Some Has → (t : List ℕ) × (ty : TypeId) × (s.find t ≡ Some ty) × (s.allows Asked ty ≡ true)
+  pub owned : (name : List ℕ) → s.call name ≡ Some On → (t : List ℕ) × (ty : TypeId) × (s.find t ≡ Some ty) × (s.allows Own ty ≡ true)

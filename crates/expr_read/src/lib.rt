@@ -2,11 +2,13 @@
 #![tactic(auto)]
 
 mod fault;
+mod laws;
 mod symbol;
 mod tree;
 mod words;
 
 pub use fault::{ExprCause, ExprFault};
+pub use laws::{goes_on_with_the_grammar, machine_reads_the_grammar, one_derivation};
 pub use tree::{
     Assign, BinaryOp, CommandText, Expr, PartExpr, RefExpr, Switch, UnaryOp, ValueExpr, Variable,
 };

@@ -1,0 +1,43 @@
+//! Laws of the grammar: a text has one derivation, and a machine with a stack reads exactly the texts.
+ghost use Rattle.std.specs.Prelude.{◌≡◌, ℕ, List, [], ◌∷◌, ◌↔◌, Bool, false, Some};
+ghost use Rattle.expr_tokens.specs.Tokens.{Token};
+ghost use Rattle.expr_read.specs.declared.symbol.Symbol.TheVariants as wait;
+ghost use Rattle.expr_read.specs.declared.symbol.Built.{Built};
+ghost use Rattle.expr_read.specs.declared.symbol.Built.TheVariants as built;
+ghost use Rattle.expr_read.specs.Fitting.{FitsExpr, FitsRef};
+ghost use Rattle.expr_read.specs.Grammar.{Syntax, expr, Ref, spell, spell_ref};
+ghost use Rattle.expr_read.specs.Faults.{CanGoOn};
+ghost use Rattle.expr_read.specs.Languages.{exprs, refs};
+ghost use Rattle.expr_read.specs.Machine.{State, run, steps};
+ghost use Rattle.expr_read.specs.Meaning.{meaning, meaning_ref};
+ghost use Rattle.expr_read.specs.Scopes.{Scope, IsLawful};
+
+/// Tokens have one derivation at most, as an expression and as a reference.
+pub fn one_derivation()
+    ensures exprs { (s : Scope) → IsLawful s → (limit : ℕ) (x y : Syntax expr) → FitsExpr s limit 0 x → FitsExpr s limit 0 y → spell x [] ≡ spell y [] → x ≡ y }
+    ensures refs { (s : Scope) → IsLawful s → (made : Bool) (x y : Ref) → FitsRef s made x → FitsRef s made y → spell_ref x [] ≡ spell_ref y [] → x ≡ y }
+{
+}
+
+/// The machine builds what a derivation means, and takes no tokens without a derivation.
+pub fn machine_reads_the_grammar()
+    ensures builds { (s : Scope) → IsLawful s → (limit : ℕ) (e : Syntax expr) → FitsExpr s limit 0 e →
+        run s limit (wait.Level 5 0 ∷ []) [] (spell e []) ≡ Some (built.Int (meaning e) ∷ []) }
+    ensures reads { (s : Scope) → IsLawful s → (limit : ℕ) (ts : List Token) (ws : List Built) → run s limit (wait.Level 5 0 ∷ []) [] ts ≡ Some ws →
+        ((e : Syntax expr) × FitsExpr s limit 0 e × (spell e [] ≡ ts) × (ws ≡ built.Int (meaning e) ∷ [])) }
+    ensures builds_refs { (s : Scope) → IsLawful s → (limit : ℕ) (r : Ref) (made : Bool) → FitsRef s made r →
+        run s limit (wait.Ref made ∷ []) [] (spell_ref r []) ≡ Some (built.Ref (meaning_ref r) ∷ []) }
+    ensures reads_refs { (s : Scope) → IsLawful s → (limit : ℕ) (made : Bool) (ts : List Token) (ws : List Built) → run s limit (wait.Ref made ∷ []) [] ts ≡ Some ws →
+        ((r : Ref) × FitsRef s made r × (spell_ref r [] ≡ ts) × (ws ≡ built.Ref (meaning_ref r) ∷ [])) }
+{
+}
+
+/// The machine takes some tokens exactly where a text of the grammar begins with them. So it stops at the first token
+/// after which no text can follow.
+pub fn goes_on_with_the_grammar()
+    ensures exprs { (s : Scope) → IsLawful s → (limit : ℕ) (front : List Token) →
+        CanGoOn (exprs s) limit front ↔ ((st : State) × (steps s limit (record { waits = wait.Level 5 0 ∷ []; built = [] }) front ≡ Some st)) }
+    ensures refs { (s : Scope) → IsLawful s → (limit : ℕ) (front : List Token) →
+        CanGoOn (refs s) limit front ↔ ((st : State) × (steps s limit (record { waits = wait.Ref false ∷ []; built = [] }) front ≡ Some st)) }
+{
+}
