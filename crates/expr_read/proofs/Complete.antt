@@ -144,17 +144,18 @@ module _ (s : Scope) (lawful : IsLawful s) (limit : ℕ) where
 
   lone_at : (o : Syntax operand) → Completes operand o → Completes expr (lone o)
   lone_at o done = λ level. elim level as (λ l. (d : ℕ) (below : List Symbol) (bs : List Built) (us : List Token) → Fits s limit l d [] (lone o) → stops l us ≡ true
-        → run s limit (wait.Level l d ∷ below) bs (spell o us) ≡ run s limit below (built.Int (meaning o) ∷ bs) us)
+      → run s limit (wait.Level l d ∷ below) bs (spell o us) ≡ run s limit below (built.Int (meaning o) ∷ bs) us)
       [ zero ↦ λ d below bs us fits h. done d below bs us fits h | suc l ↦ λ d below bs us fits h. absurd fits ]
 
   chain_at : (e : Syntax expr) (t : Syntax tail) → Completes expr e → Completes tail t → Completes expr (chain e t)
   chain_at e t front back = λ level. elim level as (λ l. (d : ℕ) (below : List Symbol) (bs : List Built) (us : List Token) → Fits s limit l d [] (chain e t) → stops l us ≡ true
-        → run s limit (wait.Level l d ∷ below) bs (spell e (spell t us)) ≡ run s limit below (built.Int ((meaning t) (meaning e)) ∷ bs) us)
-      [ zero ↦ λ d below bs us fits h. absurd fits
-      | suc l ↦ λ d below bs us fits h.
-          level_split s limit l d below bs (spell e (spell t us))
-          ∙ front l d (wait.Tail l d ∷ below) bs (spell t us) fits.0 (stops_tail t l d us fits.1 h)
-          ∙ back l d below bs us (meaning e) fits.1 h ]
+      → run s limit (wait.Level l d ∷ below) bs (spell e (spell t us)) ≡ run s limit below (built.Int ((meaning t) (meaning e)) ∷ bs) us) [
+        | zero ↦ λ d below bs us fits h. absurd fits
+        | suc l ↦ λ d below bs us fits h.
+            level_split s limit l d below bs (spell e (spell t us))
+            ∙ front l d (wait.Tail l d ∷ below) bs (spell t us) fits.0 (stops_tail t l d us fits.1 h)
+            ∙ back l d below bs us (meaning e) fits.1 h
+      ]
 
   pub stop_tail : (level d : ℕ) (below : List Symbol) (bs : List Built) (us : List Token) → stops (suc level) us ≡ true
       → run s limit (wait.Tail level d ∷ below) bs us ≡ run s limit below bs us

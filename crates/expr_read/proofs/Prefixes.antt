@@ -52,17 +52,17 @@ module _ (s : Scope) (lawful : IsLawful s) (limit : ℕ) where
   pub exprs_go_on : (front : List Token) → CanGoOn (exprs s) limit front ↔ ((st : State) × (steps s limit (record { waits = wait.Level 5 0 ∷ []; built = [] }) front ≡ Some st))
   exprs_go_on front = (
     λ c. stood s limit (steps s limit (record { waits = wait.Level 5 0 ∷ []; built = [] }) front) (λ st. run s limit st.waits st.built c.0) _
-      (sym (run_append s limit front c.0 (record { waits = wait.Level 5 0 ∷ []; built = [] })) ∙ ap (λ ts. run s limit (wait.Level 5 0 ∷ []) [] ts) (sym c.1.2) ∙ expr_built s lawful limit c.1.0 c.1.1),
+        (sym (run_append s limit front c.0 (record { waits = wait.Level 5 0 ∷ []; built = [] })) ∙ ap (λ ts. run s limit (wait.Level 5 0 ∷ []) [] ts) (sym c.1.2) ∙ expr_built s lawful limit c.1.0 c.1.1),
     λ p. let d = completed front (wait.Level 5 0 ∷ []) p.0 (tt, refl, tt) p.1 in
-         let e = expr_read s lawful limit (front ++ d.0) d.1 d.2 in
-         (d.0, (e.0, e.1, e.2)),
+        let e = expr_read s lawful limit (front ++ d.0) d.1 d.2 in
+        (d.0, (e.0, e.1, e.2)),
   )
 
   pub refs_go_on : (front : List Token) → CanGoOn (refs s) limit front ↔ ((st : State) × (steps s limit (record { waits = wait.Ref false ∷ []; built = [] }) front ≡ Some st))
   refs_go_on front = (
     λ c. stood s limit (steps s limit (record { waits = wait.Ref false ∷ []; built = [] }) front) (λ st. run s limit st.waits st.built c.0) _
-      (sym (run_append s limit front c.0 (record { waits = wait.Ref false ∷ []; built = [] })) ∙ ap (λ ts. run s limit (wait.Ref false ∷ []) [] ts) (sym c.1.2) ∙ ref_built s lawful limit c.1.0 false c.1.1),
+        (sym (run_append s limit front c.0 (record { waits = wait.Ref false ∷ []; built = [] })) ∙ ap (λ ts. run s limit (wait.Ref false ∷ []) [] ts) (sym c.1.2) ∙ ref_built s lawful limit c.1.0 false c.1.1),
     λ p. let d = completed front (wait.Ref false ∷ []) p.0 (tt, refl, tt) p.1 in
-         let e = ref_read s lawful limit false (front ++ d.0) d.1 d.2 in
-         (d.0, (e.0, e.1, e.2)),
+        let e = ref_read s lawful limit false (front ++ d.0) d.1 d.2 in
+        (d.0, (e.0, e.1, e.2)),
   )

@@ -99,8 +99,13 @@ module _ (s : Scope) (limit : ℕ) where
       let e = ih 5 d (wait.Comma ∷ below) bs ts ws short h in
       let c = read_comma s limit below e.built e.rest ws e.goes_on in
       record {
-        tree = e.tree; fits = e.fits; rest = c.rest; tokens = e.tokens ∙ ap (λ x. spell e.tree x) c.tokens;
-        shorter = omega (arith, e.shorter, ap length c.tokens); built = _; goes_on = c.goes_on;
+        tree = e.tree;
+        fits = e.fits;
+        rest = c.rest;
+        tokens = e.tokens ∙ ap (λ x. spell e.tree x) c.tokens;
+        shorter = omega (arith, e.shorter, ap length c.tokens);
+        built = _;
+        goes_on = c.goes_on;
       }
 
   then_close : (n : ℕ) → Shorter n → (d : ℕ) (below : List Symbol) (bs : List Built) (ts : List Token) (ws : List Built) → length ts < n
@@ -109,8 +114,13 @@ module _ (s : Scope) (limit : ℕ) where
       let e = ih 5 d (wait.Close ∷ below) bs ts ws short h in
       let c = read_close s limit below e.built e.rest ws e.goes_on in
       record {
-        tree = e.tree; fits = e.fits; rest = c.rest; tokens = e.tokens ∙ ap (λ x. spell e.tree x) c.tokens;
-        shorter = omega (arith, e.shorter, ap length c.tokens); built = _; goes_on = c.goes_on;
+        tree = e.tree;
+        fits = e.fits;
+        rest = c.rest;
+        tokens = e.tokens ∙ ap (λ x. spell e.tree x) c.tokens;
+        shorter = omega (arith, e.shorter, ap length c.tokens);
+        built = _;
+        goes_on = c.goes_on;
       }
 
   -- the arguments of a call, behind its name and its opening parenthesis
@@ -120,18 +130,26 @@ module _ (s : Scope) (limit : ℕ) where
       let a = then_comma n ih (suc d) _ bs ts ws short h in
       let b = then_close n ih (suc d) _ a.built a.rest ws (omega (arith, a.shorter)) a.goes_on in
       record {
-        tree = two op a.tree b.tree; fits = (deep, is, a.fits, b.fits); rest = b.rest;
+        tree = two op a.tree b.tree;
+        fits = (deep, is, a.fits, b.fits);
+        rest = b.rest;
         tokens = ap (λ x. word name ∷ sign Open ∷ x) (a.tokens ∙ ap (λ x. spell a.tree (sign Comma ∷ x)) b.tokens);
-        shorter = omega (arith, a.shorter, b.shorter); built = _; goes_on = sym (run_do s limit _ below b.built b.rest) ∙ b.goes_on;
+        shorter = omega (arith, a.shorter, b.shorter);
+        built = _;
+        goes_on = sym (run_do s limit _ below b.built b.rest) ∙ b.goes_on;
       }
   call_read n ih calls.Pick d name below bs ts ws short deep is h =
       let c = then_comma n ih (suc d) _ bs ts ws short h in
       let a = then_comma n ih (suc d) _ c.built c.rest ws (omega (arith, c.shorter)) c.goes_on in
       let b = then_close n ih (suc d) _ a.built a.rest ws (omega (arith, c.shorter, a.shorter)) a.goes_on in
       record {
-        tree = pick c.tree a.tree b.tree; fits = (deep, is, c.fits, a.fits, b.fits); rest = b.rest;
+        tree = pick c.tree a.tree b.tree;
+        fits = (deep, is, c.fits, a.fits, b.fits);
+        rest = b.rest;
         tokens = ap (λ x. word name ∷ sign Open ∷ x) (c.tokens ∙ ap (λ x. spell c.tree (sign Comma ∷ x)) (a.tokens ∙ ap (λ x. spell a.tree (sign Comma ∷ x)) b.tokens));
-        shorter = omega (arith, c.shorter, a.shorter, b.shorter); built = _; goes_on = sym (run_do s limit _ below b.built b.rest) ∙ b.goes_on;
+        shorter = omega (arith, c.shorter, a.shorter, b.shorter);
+        built = _;
+        goes_on = sym (run_do s limit _ below b.built b.rest) ∙ b.goes_on;
       }
   call_read n ih calls.Get d name below bs ts ws short deep is h =
       let r = read_ref s limit false _ bs ts ws h in
@@ -142,19 +160,27 @@ module _ (s : Scope) (limit : ℕ) where
       let done = sym (run_do s limit _ (wait.Close ∷ wait.Do act.Get ∷ below) r.built f.rest) ∙ f.goes_on in
       let e = read_close s limit _ _ f.rest ws done in
       let tail_is : c.rest ≡ word t.name ∷ sign Dot ∷ word f.name ∷ sign Close ∷ e.rest =
-            t.tokens ∙ ap (λ x. word t.name ∷ x) (p.tokens ∙ ap (λ x. sign Dot ∷ x) (f.tokens ∙ ap (λ x. word f.name ∷ x) e.tokens)) in
+      t.tokens ∙ ap (λ x. word t.name ∷ x) (p.tokens ∙ ap (λ x. sign Dot ∷ x) (f.tokens ∙ ap (λ x. word f.name ∷ x) e.tokens)) in
       record {
-        tree = get r.tree t.name t.ty f.name f.place; fits = (deep, is, r.fits, (t.known, f.known)); rest = e.rest;
+        tree = get r.tree t.name t.ty f.name f.place;
+        fits = (deep, is, r.fits, (t.known, f.known));
+        rest = e.rest;
         tokens = ap (λ x. word name ∷ sign Open ∷ x) (r.tokens ∙ ap (λ x. spell_ref r.tree x) (c.tokens ∙ ap (λ x. sign Comma ∷ x) tail_is));
-        shorter = omega (arith, r.shorter, ap length c.tokens, ap length tail_is); built = _; goes_on = sym (run_do s limit _ below _ e.rest) ∙ e.goes_on;
+        shorter = omega (arith, r.shorter, ap length c.tokens, ap length tail_is);
+        built = _;
+        goes_on = sym (run_do s limit _ below _ e.rest) ∙ e.goes_on;
       }
   call_read n ih calls.Alive d name below bs ts ws short deep is h =
       let r = read_ref s limit false _ bs ts ws h in
       let e = read_close s limit _ r.built r.rest ws r.goes_on in
       record {
-        tree = alive r.tree; fits = (deep, is, r.fits); rest = e.rest;
+        tree = alive r.tree;
+        fits = (deep, is, r.fits);
+        rest = e.rest;
         tokens = ap (λ x. word name ∷ sign Open ∷ x) (r.tokens ∙ ap (λ x. spell_ref r.tree x) e.tokens);
-        shorter = omega (arith, r.shorter, ap length e.tokens); built = _; goes_on = sym (run_do s limit _ below r.built e.rest) ∙ e.goes_on;
+        shorter = omega (arith, r.shorter, ap length e.tokens);
+        built = _;
+        goes_on = sym (run_do s limit _ below r.built e.rest) ∙ e.goes_on;
       }
   call_read n ih calls.Has d name below bs ts ws short deep is h =
       let r = read_ref s limit false _ bs ts ws h in
@@ -164,9 +190,13 @@ module _ (s : Scope) (limit : ℕ) where
       let e = read_close s limit _ _ t.rest ws done in
       let tail_is : c.rest ≡ word t.name ∷ sign Close ∷ e.rest = t.tokens ∙ ap (λ x. word t.name ∷ x) e.tokens in
       record {
-        tree = has r.tree t.name t.ty; fits = (deep, is, r.fits, (t.known, t.passes)); rest = e.rest;
+        tree = has r.tree t.name t.ty;
+        fits = (deep, is, r.fits, (t.known, t.passes));
+        rest = e.rest;
         tokens = ap (λ x. word name ∷ sign Open ∷ x) (r.tokens ∙ ap (λ x. spell_ref r.tree x) (c.tokens ∙ ap (λ x. sign Comma ∷ x) tail_is));
-        shorter = omega (arith, r.shorter, ap length c.tokens, ap length tail_is); built = _; goes_on = sym (run_do s limit _ below _ e.rest) ∙ e.goes_on;
+        shorter = omega (arith, r.shorter, ap length c.tokens, ap length tail_is);
+        built = _;
+        goes_on = sym (run_do s limit _ below _ e.rest) ∙ e.goes_on;
       }
   call_read n ih calls.Same d name below bs ts ws short deep is h =
       let r = read_ref s limit false _ bs ts ws h in
@@ -174,18 +204,26 @@ module _ (s : Scope) (limit : ℕ) where
       let q = read_ref s limit false _ r.built c.rest ws c.goes_on in
       let e = read_close s limit _ q.built q.rest ws q.goes_on in
       record {
-        tree = same r.tree q.tree; fits = (deep, is, r.fits, q.fits); rest = e.rest;
+        tree = same r.tree q.tree;
+        fits = (deep, is, r.fits, q.fits);
+        rest = e.rest;
         tokens = ap (λ x. word name ∷ sign Open ∷ x) (r.tokens ∙ ap (λ x. spell_ref r.tree x) (c.tokens ∙ ap (λ x. sign Comma ∷ x) (q.tokens ∙ ap (λ x. spell_ref q.tree x) e.tokens)));
-        shorter = omega (arith, r.shorter, ap length c.tokens, q.shorter, ap length e.tokens); built = _; goes_on = sym (run_do s limit _ below q.built e.rest) ∙ e.goes_on;
+        shorter = omega (arith, r.shorter, ap length c.tokens, q.shorter, ap length e.tokens);
+        built = _;
+        goes_on = sym (run_do s limit _ below q.built e.rest) ∙ e.goes_on;
       }
   call_read n ih calls.On d name below bs ts ws short deep is h =
       let t = read_type s limit Own _ bs ts ws h in
       let done = sym (run_do s limit _ (wait.Close ∷ wait.Do act.On ∷ below) bs t.rest) ∙ t.goes_on in
       let e = read_close s limit _ _ t.rest ws done in
       record {
-        tree = on t.name t.ty; fits = (deep, is, (t.known, t.passes)); rest = e.rest;
+        tree = on t.name t.ty;
+        fits = (deep, is, (t.known, t.passes));
+        rest = e.rest;
         tokens = ap (λ x. word name ∷ sign Open ∷ x) (t.tokens ∙ ap (λ x. word t.name ∷ x) e.tokens);
-        shorter = omega (arith, ap length t.tokens, ap length e.tokens); built = _; goes_on = sym (run_do s limit _ below _ e.rest) ∙ e.goes_on;
+        shorter = omega (arith, ap length t.tokens, ap length e.tokens);
+        built = _;
+        goes_on = sym (run_do s limit _ below _ e.rest) ∙ e.goes_on;
       }
 
   -- a name of an expression and what follows it
@@ -196,27 +234,42 @@ module _ (s : Scope) (limit : ℕ) where
   name_read n ih d name below bs ts ws short h =
       ⊎_elim (λ t. goes t (followed (s.variable name) (field_type s NumberField name) (s.call name) d t.token t.new t.takes))
       (λ e. let v = some_inv (s.variable name) e.ends in record {
-        tree = alone v.0; fits = v.1; rest = ts; tokens = refl; shorter = omega arith; built = _; goes_on = e.goes_on;
+        tree = alone v.0;
+        fits = v.1;
+        rest = ts;
+        tokens = refl;
+        shorter = omega arith;
+        built = _;
+        goes_on = e.goes_on;
       })
       (way s limit (wait.Named (s.variable name) (field_type s NumberField name) (s.call name) d) below bs ts ws h) where
-    goes : (t : Taken s limit (wait.Named (s.variable name) (field_type s NumberField name) (s.call name) d) below bs ts ws)
-        → Followed (field_type s NumberField name) (s.call name) d t.token t.new → ReadSuffix d name below ts ws
-    goes t (by_dot u is known leaves) =
-        let k = kept_inv (s.has_field NumberField) (s.find name) u known in
-        let f = read_field s limit NumberField u below bs t.rest ws (left s limit below bs t.rest ws (wait.Field u NumberField ∷ []) t.new leaves t.goes_on) in
-        let whole : ts ≡ sign Dot ∷ word f.name ∷ f.rest = t.tokens ∙ (λ j. is j ∷ f.tokens j) in
-        record {
-          tree = field f.name u f.place; fits = (k.0, f.known); rest = f.rest;
-          tokens = ap (λ x. word name ∷ x) whole; shorter = omega (arith, ap length whole); built = _;
-          goes_on = sym (run_do s limit _ below bs f.rest) ∙ f.goes_on;
-        }
-    goes t (by_call c is known deep leaves) =
-        let whole : ts ≡ sign Open ∷ t.rest = t.tokens ∙ ap (λ x. x ∷ t.rest) is in
-        let r = call_read n ih c d name below bs t.rest ws (omega (arith, ap length whole)) deep known (left s limit below bs t.rest ws (arguments c (suc d)) t.new leaves t.goes_on) in
-        record {
-          tree = r.tree; fits = r.fits; rest = r.rest; tokens = ap (λ x. word name ∷ x) whole ∙ r.tokens;
-          shorter = omega (arith, r.shorter, ap length whole); built = r.built; goes_on = r.goes_on;
-        }
+        goes : (t : Taken s limit (wait.Named (s.variable name) (field_type s NumberField name) (s.call name) d) below bs ts ws)
+            → Followed (field_type s NumberField name) (s.call name) d t.token t.new → ReadSuffix d name below ts ws
+        goes t (by_dot u is known leaves) =
+            let k = kept_inv (s.has_field NumberField) (s.find name) u known in
+            let f = read_field s limit NumberField u below bs t.rest ws (left s limit below bs t.rest ws (wait.Field u NumberField ∷ []) t.new leaves t.goes_on) in
+            let whole : ts ≡ sign Dot ∷ word f.name ∷ f.rest = t.tokens ∙ (λ j. is j ∷ f.tokens j) in
+            record {
+              tree = field f.name u f.place;
+              fits = (k.0, f.known);
+              rest = f.rest;
+              tokens = ap (λ x. word name ∷ x) whole;
+              shorter = omega (arith, ap length whole);
+              built = _;
+              goes_on = sym (run_do s limit _ below bs f.rest) ∙ f.goes_on;
+            }
+        goes t (by_call c is known deep leaves) =
+            let whole : ts ≡ sign Open ∷ t.rest = t.tokens ∙ ap (λ x. x ∷ t.rest) is in
+            let r = call_read n ih c d name below bs t.rest ws (omega (arith, ap length whole)) deep known (left s limit below bs t.rest ws (arguments c (suc d)) t.new leaves t.goes_on) in
+            record {
+              tree = r.tree;
+              fits = r.fits;
+              rest = r.rest;
+              tokens = ap (λ x. word name ∷ x) whole ∙ r.tokens;
+              shorter = omega (arith, r.shorter, ap length whole);
+              built = r.built;
+              goes_on = r.goes_on;
+            }
 
   -- an expression of no level is an operand
   operand_of : (d : ℕ) (below : List Symbol) (ts : List Token) (ws : List Built) → ReadExpr 0 d below ts ws → ReadOperand d below ts ws
@@ -239,38 +292,58 @@ module _ (s : Scope) (limit : ℕ) where
       let t = must_take s limit (wait.Level 0 d) below bs ts ws (never_level 0 d) h in
       let m = level_takes d t.token t.new t.takes in
       goes t m.0 m.2 (begun d t.token m.0 m.1) where
-    goes : (t : Taken s limit (wait.Level 0 d) below bs ts ws) (new : List Symbol) → new ++ [] ≡ t.new → Begun d t.token new → ReadOperand d below ts ws
-    goes t new closed (by_number k is small leaves) =
-        let whole : ts ≡ numeral k ∷ t.rest = t.tokens ∙ ap (λ x. x ∷ t.rest) is in
-        let on = left s limit below bs t.rest ws (wait.Do (act.Number (pos k)) ∷ []) t.new (ap (λ x. x ++ []) leaves ∙ closed) t.goes_on in
-        record {
-          tree = number k; fits = small; rest = t.rest; tokens = whole; shorter = omega (arith, ap length whole); built = _;
-          goes_on = sym (run_do s limit _ below bs t.rest) ∙ on;
-        }
-    goes t new closed (by_open is deep leaves) =
-        let whole : ts ≡ sign Open ∷ t.rest = t.tokens ∙ ap (λ x. x ∷ t.rest) is in
-        let on = left s limit below bs t.rest ws (wait.Level 5 (suc d) ∷ wait.Close ∷ []) t.new (ap (λ x. x ++ []) leaves ∙ closed) t.goes_on in
-        let e = then_close n ih (suc d) below bs t.rest ws (omega (arith, ap length whole)) on in
-        record {
-          tree = group e.tree; fits = (deep, e.fits); rest = e.rest; tokens = whole ∙ ap (λ x. sign Open ∷ x) e.tokens;
-          shorter = omega (arith, e.shorter, ap length whole); built = e.built; goes_on = e.goes_on;
-        }
-    goes t new closed (by_sign g op is deep known leaves) =
-        let whole : ts ≡ sign g ∷ t.rest = t.tokens ∙ ap (λ x. x ∷ t.rest) is in
-        let on = left s limit below bs t.rest ws (wait.Level 0 (suc d) ∷ wait.Do (act.Unary op) ∷ []) t.new (ap (λ x. x ++ []) leaves ∙ closed) t.goes_on in
-        let o = operand_of (suc d) _ t.rest ws (ih 0 (suc d) (wait.Do (act.Unary op) ∷ below) bs t.rest ws (omega (arith, ap length whole)) on) in
-        record {
-          tree = signed g op o.tree; fits = (deep, known, o.fits); rest = o.rest; tokens = whole ∙ ap (λ x. sign g ∷ x) o.tokens;
-          shorter = omega (arith, o.shorter, ap length whole); built = _; goes_on = sym (run_do s limit _ below o.built o.rest) ∙ o.goes_on;
-        }
-    goes t new closed (by_name name is may leaves) =
-        let whole : ts ≡ word name ∷ t.rest = t.tokens ∙ ap (λ x. x ∷ t.rest) is in
-        let on = left s limit below bs t.rest ws (wait.Named (s.variable name) (field_type s NumberField name) (s.call name) d ∷ []) t.new (ap (λ x. x ++ []) leaves ∙ closed) t.goes_on in
-        let x = name_read n ih d name below bs t.rest ws (omega (arith, ap length whole)) on in
-        record {
-          tree = named name x.tree; fits = x.fits; rest = x.rest; tokens = whole ∙ x.tokens;
-          shorter = omega (arith, x.shorter, ap length whole); built = x.built; goes_on = x.goes_on;
-        }
+        goes : (t : Taken s limit (wait.Level 0 d) below bs ts ws) (new : List Symbol) → new ++ [] ≡ t.new → Begun d t.token new → ReadOperand d below ts ws
+        goes t new closed (by_number k is small leaves) =
+            let whole : ts ≡ numeral k ∷ t.rest = t.tokens ∙ ap (λ x. x ∷ t.rest) is in
+            let on = left s limit below bs t.rest ws (wait.Do (act.Number (pos k)) ∷ []) t.new (ap (λ x. x ++ []) leaves ∙ closed) t.goes_on in
+            record {
+              tree = number k;
+              fits = small;
+              rest = t.rest;
+              tokens = whole;
+              shorter = omega (arith, ap length whole);
+              built = _;
+              goes_on = sym (run_do s limit _ below bs t.rest) ∙ on;
+            }
+        goes t new closed (by_open is deep leaves) =
+            let whole : ts ≡ sign Open ∷ t.rest = t.tokens ∙ ap (λ x. x ∷ t.rest) is in
+            let on = left s limit below bs t.rest ws (wait.Level 5 (suc d) ∷ wait.Close ∷ []) t.new (ap (λ x. x ++ []) leaves ∙ closed) t.goes_on in
+            let e = then_close n ih (suc d) below bs t.rest ws (omega (arith, ap length whole)) on in
+            record {
+              tree = group e.tree;
+              fits = (deep, e.fits);
+              rest = e.rest;
+              tokens = whole ∙ ap (λ x. sign Open ∷ x) e.tokens;
+              shorter = omega (arith, e.shorter, ap length whole);
+              built = e.built;
+              goes_on = e.goes_on;
+            }
+        goes t new closed (by_sign g op is deep known leaves) =
+            let whole : ts ≡ sign g ∷ t.rest = t.tokens ∙ ap (λ x. x ∷ t.rest) is in
+            let on = left s limit below bs t.rest ws (wait.Level 0 (suc d) ∷ wait.Do (act.Unary op) ∷ []) t.new (ap (λ x. x ++ []) leaves ∙ closed) t.goes_on in
+            let o = operand_of (suc d) _ t.rest ws (ih 0 (suc d) (wait.Do (act.Unary op) ∷ below) bs t.rest ws (omega (arith, ap length whole)) on) in
+            record {
+              tree = signed g op o.tree;
+              fits = (deep, known, o.fits);
+              rest = o.rest;
+              tokens = whole ∙ ap (λ x. sign g ∷ x) o.tokens;
+              shorter = omega (arith, o.shorter, ap length whole);
+              built = _;
+              goes_on = sym (run_do s limit _ below o.built o.rest) ∙ o.goes_on;
+            }
+        goes t new closed (by_name name is may leaves) =
+            let whole : ts ≡ word name ∷ t.rest = t.tokens ∙ ap (λ x. x ∷ t.rest) is in
+            let on = left s limit below bs t.rest ws (wait.Named (s.variable name) (field_type s NumberField name) (s.call name) d ∷ []) t.new (ap (λ x. x ++ []) leaves ∙ closed) t.goes_on in
+            let x = name_read n ih d name below bs t.rest ws (omega (arith, ap length whole)) on in
+            record {
+              tree = named name x.tree;
+              fits = x.fits;
+              rest = x.rest;
+              tokens = whole ∙ x.tokens;
+              shorter = omega (arith, x.shorter, ap length whole);
+              built = x.built;
+              goes_on = x.goes_on;
+            }
 
   -- how a tail may go on
   pub record Operated (level d : ℕ) (t : Token) (new : List Symbol) : Type 0 where
@@ -314,22 +387,26 @@ module _ (s : Scope) (limit : ℕ) where
   tail_read zero n ih level d below bs ts ws few short h = absurd (omega arith)
   tail_read (suc m) n ih level d below bs ts ws few short h =
       goes (way s limit (wait.Tail level d) below bs ts ws h) (λ bs' ts' fewer. tail_read m n ih level d below bs' ts' ws (omega arith) (omega arith)) where
-    goes : Taken s limit (wait.Tail level d) below bs ts ws ⊎ Ended s limit (wait.Tail level d) below bs ts ws
-        → ((bs' : List Built) (ts' : List Token) → length ts' < length ts → run s limit (wait.Tail level d ∷ below) bs' ts' ≡ Some ws → ReadTail level d below ts' ws)
-        → ReadTail level d below ts ws
-    goes (inr e) again = record { tree = stop; fits = tt; rest = ts; tokens = refl; shorter = omega arith; built = _; goes_on = e.goes_on }
-    goes (inl t) again =
-        let o = operated level d t.token t.new t.takes in
-        let whole : ts ≡ sign o.g ∷ t.rest = t.tokens ∙ ap (λ x. x ∷ t.rest) o.token in
-        let on = left s limit below bs t.rest ws _ t.new o.leaves t.goes_on in
-        let e = ih level d _ bs t.rest ws (omega (arith, ap length whole)) on in
-        let built = sym (run_do s limit (act.Binary o.op) (cond (associates level) (wait.Tail level d ∷ []) [] ++ below) e.built e.rest) ∙ e.goes_on in
-        let r = tail_on level d (associates level) below _ e.rest ws (again _ e.rest (omega (arith, e.shorter, ap length whole))) built in
-        record {
-          tree = more o.g o.op e.tree r.0.tree; fits = (o.known, e.fits, r.1, r.0.fits); rest = r.0.rest;
-          tokens = whole ∙ ap (λ x. sign o.g ∷ x) (e.tokens ∙ ap (λ x. spell e.tree x) r.0.tokens);
-          shorter = omega (arith, r.0.shorter, e.shorter, ap length whole); built = r.0.built; goes_on = r.0.goes_on;
-        }
+        goes : Taken s limit (wait.Tail level d) below bs ts ws ⊎ Ended s limit (wait.Tail level d) below bs ts ws
+            → ((bs' : List Built) (ts' : List Token) → length ts' < length ts → run s limit (wait.Tail level d ∷ below) bs' ts' ≡ Some ws → ReadTail level d below ts' ws)
+            → ReadTail level d below ts ws
+        goes (inr e) again = record { tree = stop; fits = tt; rest = ts; tokens = refl; shorter = omega arith; built = _; goes_on = e.goes_on }
+        goes (inl t) again =
+            let o = operated level d t.token t.new t.takes in
+            let whole : ts ≡ sign o.g ∷ t.rest = t.tokens ∙ ap (λ x. x ∷ t.rest) o.token in
+            let on = left s limit below bs t.rest ws _ t.new o.leaves t.goes_on in
+            let e = ih level d _ bs t.rest ws (omega (arith, ap length whole)) on in
+            let built = sym (run_do s limit (act.Binary o.op) (cond (associates level) (wait.Tail level d ∷ []) [] ++ below) e.built e.rest) ∙ e.goes_on in
+            let r = tail_on level d (associates level) below _ e.rest ws (again _ e.rest (omega (arith, e.shorter, ap length whole))) built in
+            record {
+              tree = more o.g o.op e.tree r.0.tree;
+              fits = (o.known, e.fits, r.1, r.0.fits);
+              rest = r.0.rest;
+              tokens = whole ∙ ap (λ x. sign o.g ∷ x) (e.tokens ∙ ap (λ x. spell e.tree x) r.0.tokens);
+              shorter = omega (arith, r.0.shorter, e.shorter, ap length whole);
+              built = r.0.built;
+              goes_on = r.0.goes_on;
+            }
 
   level_read : (n : ℕ) → Shorter n → (level d : ℕ) (below : List Symbol) (bs : List Built) (ts : List Token) (ws : List Built)
       → length ts < suc n → run s limit (wait.Level level d ∷ below) bs ts ≡ Some ws → ReadExpr level d below ts ws
@@ -340,8 +417,13 @@ module _ (s : Scope) (limit : ℕ) where
       let e = level_read n ih level d (wait.Tail level d ∷ below) bs ts ws short (sym (level_split s limit level d below bs ts) ∙ h) in
       let t = tail_read (suc (length e.rest)) n ih level d below e.built e.rest ws (omega arith) (omega (arith, e.shorter)) e.goes_on in
       record {
-        tree = chain e.tree t.tree; fits = (e.fits, t.fits); rest = t.rest; tokens = e.tokens ∙ ap (λ x. spell e.tree x) t.tokens;
-        shorter = omega (arith, e.shorter, t.shorter); built = t.built; goes_on = t.goes_on;
+        tree = chain e.tree t.tree;
+        fits = (e.fits, t.fits);
+        rest = t.rest;
+        tokens = e.tokens ∙ ap (λ x. spell e.tree x) t.tokens;
+        shorter = omega (arith, e.shorter, t.shorter);
+        built = t.built;
+        goes_on = t.goes_on;
       }
 
   all_read : (n : ℕ) → Shorter n

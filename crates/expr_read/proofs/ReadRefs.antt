@@ -210,25 +210,31 @@ module _ (s : Scope) (limit : ℕ) where
   named_ref made name below bs ts ws h =
       ⊎_elim dotted
       (λ e. let r = some_inv (s.reference made name) e.ends in record {
-        tree = called name (plain r.0); fits = r.1; rest = ts; tokens = refl; shorter = omega arith; built = _; goes_on = e.goes_on;
+        tree = called name (plain r.0);
+        fits = r.1;
+        rest = ts;
+        tokens = refl;
+        shorter = omega arith;
+        built = _;
+        goes_on = e.goes_on;
       })
       (way s limit (wait.NamedRef (s.reference made name) (field_type s EntityField name)) below bs ts ws h) where
-    dotted : Taken s limit (wait.NamedRef (s.reference made name) (field_type s EntityField name)) below bs ts ws → ReadRef made below (word name ∷ ts) ws
-    dotted t =
-        let i = dot_inv (s.reference made name) (field_type s EntityField name) t.token t.new t.takes in
-        let m = map_inv (λ u. wait.Field u EntityField ∷ []) (field_type s EntityField name) t.new i.1 in
-        let k = kept_inv (s.has_field EntityField) (s.find name) m.0 m.1 in
-        let f = read_field EntityField m.0 below bs t.rest ws (subst (λ w. run s limit (w ++ below) bs t.rest ≡ Some ws) (sym m.2) t.goes_on) in
-        let whole : ts ≡ sign Dot ∷ word f.name ∷ f.rest = t.tokens ∙ (λ j. i.0 j ∷ f.tokens j) in
-        record {
-          tree = called name (own f.name m.0 f.place);
-          fits = (k.0, f.known);
-          rest = f.rest;
-          tokens = ap (λ x. word name ∷ x) whole;
-          shorter = omega (arith, ap length whole);
-          built = _;
-          goes_on = sym (run_do s limit _ below bs f.rest) ∙ f.goes_on;
-        }
+        dotted : Taken s limit (wait.NamedRef (s.reference made name) (field_type s EntityField name)) below bs ts ws → ReadRef made below (word name ∷ ts) ws
+        dotted t =
+            let i = dot_inv (s.reference made name) (field_type s EntityField name) t.token t.new t.takes in
+            let m = map_inv (λ u. wait.Field u EntityField ∷ []) (field_type s EntityField name) t.new i.1 in
+            let k = kept_inv (s.has_field EntityField) (s.find name) m.0 m.1 in
+            let f = read_field EntityField m.0 below bs t.rest ws (subst (λ w. run s limit (w ++ below) bs t.rest ≡ Some ws) (sym m.2) t.goes_on) in
+            let whole : ts ≡ sign Dot ∷ word f.name ∷ f.rest = t.tokens ∙ (λ j. i.0 j ∷ f.tokens j) in
+            record {
+              tree = called name (own f.name m.0 f.place);
+              fits = (k.0, f.known);
+              rest = f.rest;
+              tokens = ap (λ x. word name ∷ x) whole;
+              shorter = omega (arith, ap length whole);
+              built = _;
+              goes_on = sym (run_do s limit _ below bs f.rest) ∙ f.goes_on;
+            }
 
   -- a reference begins with a number or with a name
   pub record BeginsNumber (t : Token) (new : List Symbol) (wanted : ℕ → List Symbol) : Type 0 where
@@ -290,7 +296,7 @@ module _ (s : Scope) (limit : ℕ) where
       let v = must_take s limit (wait.Version b.n) below bs c.rest ws (never_version b.n) (left below bs c.rest ws (wait.Version b.n ∷ []) c.new d.1 c.goes_on) in
       let w = version_inv b.n v.token v.new v.takes in
       let whole : ts ≡ numeral b.n ∷ sign Colon ∷ numeral w.n ∷ v.rest =
-            t.tokens ∙ (λ j. b.token j ∷ c.tokens j) ∙ ap (λ x. numeral b.n ∷ x) (λ j. d.0 j ∷ v.tokens j) ∙ ap (λ x. numeral b.n ∷ sign Colon ∷ x ∷ v.rest) w.token in
+      t.tokens ∙ (λ j. b.token j ∷ c.tokens j) ∙ ap (λ x. numeral b.n ∷ x) (λ j. d.0 j ∷ v.tokens j) ∙ ap (λ x. numeral b.n ∷ sign Colon ∷ x ∷ v.rest) w.token in
       record {
         tree = entity b.n w.n;
         fits = (b.small, w.small);
@@ -307,9 +313,14 @@ module _ (s : Scope) (limit : ℕ) where
       let t = must_take s limit (wait.Ref made) below bs ts ws (never_ref made) h in
       ⊎_elim (λ b. numbered made below bs ts ws t b)
       (λ b. let r = named_ref made b.name below bs t.rest ws (left below bs t.rest ws _ t.new b.leaves t.goes_on) in
-            let same : ts ≡ word b.name ∷ t.rest = t.tokens ∙ ap (λ x. x ∷ t.rest) b.token in
-            record {
-              tree = r.tree; fits = r.fits; rest = r.rest; tokens = same ∙ r.tokens;
-              shorter = omega (arith, r.shorter, ap length same); built = r.built; goes_on = r.goes_on;
-            })
+      let same : ts ≡ word b.name ∷ t.rest = t.tokens ∙ ap (λ x. x ∷ t.rest) b.token in
+      record {
+        tree = r.tree;
+        fits = r.fits;
+        rest = r.rest;
+        tokens = same ∙ r.tokens;
+        shorter = omega (arith, r.shorter, ap length same);
+        built = r.built;
+        goes_on = r.goes_on;
+      })
       (ref_inv made t.token t.new t.takes)

@@ -16,8 +16,7 @@ ghost use Rattle.expr_read.specs.Scopes.{Scope, IsLawful};
 pub fn one_derivation()
     ensures exprs { (s : Scope) → IsLawful s → (limit : ℕ) (x y : Syntax expr) → FitsExpr s limit 0 x → FitsExpr s limit 0 y → spell x [] ≡ spell y [] → x ≡ y }
     ensures refs { (s : Scope) → IsLawful s → (made : Bool) (x y : Ref) → FitsRef s made x → FitsRef s made y → spell_ref x [] ≡ spell_ref y [] → x ≡ y }
-{
-}
+{}
 
 /// The machine builds what a derivation means, and takes no tokens without a derivation.
 pub fn machine_reads_the_grammar()
@@ -29,8 +28,7 @@ pub fn machine_reads_the_grammar()
         run s limit (wait.Ref made ∷ []) [] (spell_ref r []) ≡ Some (built.Ref (meaning_ref r) ∷ []) }
     ensures reads_refs { (s : Scope) → IsLawful s → (limit : ℕ) (made : Bool) (ts : List Token) (ws : List Built) → run s limit (wait.Ref made ∷ []) [] ts ≡ Some ws →
         ((r : Ref) × FitsRef s made r × (spell_ref r [] ≡ ts) × (ws ≡ built.Ref (meaning_ref r) ∷ [])) }
-{
-}
+{}
 
 /// The machine takes some tokens exactly where a text of the grammar begins with them. So it stops at the first token
 /// after which no text can follow.
@@ -39,5 +37,4 @@ pub fn goes_on_with_the_grammar()
         CanGoOn (exprs s) limit front ↔ ((st : State) × (steps s limit (record { waits = wait.Level 5 0 ∷ []; built = [] }) front ≡ Some st)) }
     ensures refs { (s : Scope) → IsLawful s → (limit : ℕ) (front : List Token) →
         CanGoOn (refs s) limit front ↔ ((st : State) × (steps s limit (record { waits = wait.Ref false ∷ []; built = [] }) front ≡ Some st)) }
-{
-}
+{}

@@ -6,9 +6,15 @@ use ent_types::TypeId;
 #[derive(Clone, Copy, Debug)]
 pub(crate) enum Symbol {
     /// An expression of operators below the level, at a depth.
-    Level { level: u8, depth: u8 },
+    Level {
+        level: u8,
+        depth: u8,
+    },
     /// Perhaps operators of this level with their operands.
-    Tail { level: u8, depth: u8 },
+    Tail {
+        level: u8,
+        depth: u8,
+    },
     /// What follows a name in an expression, by what the name may be.
     Named {
         variable: Option<Variable>,
@@ -25,20 +31,29 @@ pub(crate) enum Symbol {
     /// `=`
     Becomes,
     /// A field of the type.
-    Field { ty: TypeId, role: FieldUse },
+    Field {
+        ty: TypeId,
+        role: FieldUse,
+    },
     /// A type, a dot and a field.
     TypeField(FieldUse),
     /// A reference; `made` says whether a made name fits.
-    Ref { made: bool },
+    Ref {
+        made: bool,
+    },
     /// What follows a name in a reference, by what the name may be.
     NamedRef {
         plain: Option<RefExpr>,
         ty: Option<TypeId>,
     },
     /// The colon behind an index.
-    Colon { index: u32 },
+    Colon {
+        index: u32,
+    },
     /// The version behind an index and a colon.
-    Version { index: u32 },
+    Version {
+        index: u32,
+    },
     /// A type.
     Type(TypeUse),
     /// Nothing: a step of building.
