@@ -7,11 +7,15 @@ mod memory;
 mod name;
 mod sequence;
 mod steps;
+mod type_set;
 mod value;
+mod version;
 
 pub use entity::{Entity, TypeId};
 pub use memory::Memory;
 pub use name::{LONGEST_NAME, Name};
 pub use sequence::Sequence;
 pub use steps::Steps;
+pub use type_set::{TypeSet, Types};
 pub use value::{Part, Parts, Value, Values};
+pub use version::SystemVersion;
