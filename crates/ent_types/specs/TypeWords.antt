@@ -1,5 +1,6 @@
 -- how a set of types is kept: type t is the bit t of a number of 256 bits, cut into words of 64 bits, the lowest first
-use Rattle.std.specs.Prelude.{◌≡◌, ℕ, zero, suc, ◌+◌, ◌*◌, ◌/◌, ◌%◌, ◌^◌, ◌<◌, ◌==◌, if◌then◌else◌, List, [], ◌∷◌, length, All}
+use Rattle.std.specs.Prelude.{◌≡◌, ℕ, zero, suc, ◌+◌, ◌*◌, ◌/◌, ◌%◌, ◌^◌, ◌<◌, ◌≤◌, ◌==◌, if◌then◌else◌, List, [], ◌∷◌, length, All}
+use Rattle.std.specs.Int.{bit_at}
 
 -- the number that the words spell
 abbrev pub number_of : List ℕ → ℕ
@@ -33,3 +34,14 @@ words_from (suc count) n = n % 2 ^ 64 ∷ words_from count (n / 2 ^ 64)
 -- the words that hold these types
 abbrev pub words_of : List ℕ → List ℕ
 words_of types = words_from 4 (number_with types)
+
+-- no bit of the word is set from `low` up to `high`
+abbrev pub HasNoBit : ℕ → ℕ → ℕ → Type 0
+HasNoBit word low high = (i : ℕ) → low ≤ i → i < high → bit_at word i ≡ 0
+
+-- the bit at `place` is the lowest of the word that is set at `from` or above
+pub record IsFirstBit (word from place : ℕ) : Type 0 where
+  pub above : from ≤ place
+  pub within : place < 64
+  pub is_set : bit_at word place ≡ 1
+  pub first : HasNoBit word from place

@@ -1,8 +1,11 @@
 //! Sets of types.
-ghost use Rattle.std.specs.Prelude.{◌≡◌, ◌<◌, ◌≤◌, ◌↔◌, [], length, IsTrue, All, option_map, nat_eq};
+ghost use Rattle.std.specs.Prelude.{◌≡◌, ◌==◌, ℕ, ◌<◌, ◌≤◌, ◌^◌, ◌↔◌, [], length, not, IsTrue, IfSome, IfNone, option_map, nat_eq, sum_by, zip, bit_and, count_ones};
+ghost use Rattle.std.specs.Int.{bit_not, w64};
+ghost use Rattle.std.specs.List.{list_all, list_any};
 ghost use Rattle.std.specs.Cmp.{partial_equiv_from_equiv};
 ghost use Rattle.std.specs.Cmp.Lexicographic.{pointwise, nat_list_eq_equiv};
 ghost use Rattle.std.specs.Iterator.{YieldsFirstBy, item_count};
+ghost use Rattle.ent_types.specs.TypeWords.{IsFirstBit, HasNoBit};
 ghost use Rattle.ent_types.specs.TypeSets.{IsRisingBelow, has_type, with_type, without_type, is_subset_of, meets, next_type};
 
 use crate::TypeId;
@@ -35,6 +38,48 @@ impl Model for TypeSet {
     ghost inverse = { λ types. record { words = words_of types } };
 
     ghost inverse_ok = { λ s holds. Prim.rw (words_of-types_of s.words holds) refl };
+}
+
+/// Says whether each bit of each word is also in the other word at its place.
+fn are_covered(words: &[u64], others: &[u64]) -> bool
+    ensures { result ≡ list_all (λ pair. bit_and pair.0 (bit_not w64 pair.1) == 0) (zip words.now others.now) }
+{
+    words
+        .iter()
+        .zip(others.iter())
+        .all(|(word, other)| word & !other == 0)
+}
+
+/// Says whether some bit is in both words at one place.
+fn share_a_bit(words: &[u64], others: &[u64]) -> bool
+    ensures { result ≡ list_any (λ pair. not (bit_and pair.0 pair.1 == 0)) (zip words.now others.now) }
+{
+    words
+        .iter()
+        .zip(others.iter())
+        .any(|(word, other)| word & other != 0)
+}
+
+/// The number of bits that are set in some words.
+fn count_bits(words: &[u64]) -> u32
+    requires { sum_by count_ones words.now < 2 ^ 32 }
+    ensures { result ≡ sum_by count_ones words.now }
+{
+    words.iter().map(|word| word.count_ones()).sum()
+}
+
+/// The place of the lowest bit of a word that is set, at `from` or above.
+fn first_bit(word: u64, from: u32) -> Option<u32>
+    requires { from < 64 }
+    ensures some { IfSome result (IsFirstBit word from) }
+    ensures none { IfNone result (HasNoBit word from 64) }
+{
+    let left = word & (u64::MAX << from);
+    if left == 0 {
+        None
+    } else {
+        Some(left.trailing_zeros())
+    }
 }
 
 impl PartialEq for TypeSet {
@@ -93,24 +138,19 @@ impl TypeSet {
     /// Says whether each type of this set is in the other.
     pub fn is_subset(&self, other: &TypeSet) -> bool
         ensures value { result ≡ is_subset_of self.now other.now }
-        ensures each { IsTrue result ↔ All (λ t. IsTrue (has_type other.now t)) self.now }
+        ensures each { IsTrue result ↔ ((ty : ℕ) → IsTrue (has_type self.now ty) → IsTrue (has_type other.now ty)) }
         ensures rising { IsRisingBelow 256 self.now × IsRisingBelow 256 other.now }
     {
-        self.words
-            .iter()
-            .zip(other.words.iter())
-            .all(|(mine, theirs)| mine & !theirs == 0)
+        are_covered(&self.words, &other.words)
     }
 
     /// Says whether some type is in both sets.
     pub fn meets(&self, other: &TypeSet) -> bool
         ensures value { result ≡ meets self.now other.now }
+        ensures some { IsTrue result ↔ ((ty : ℕ) × IsTrue (has_type self.now ty) × IsTrue (has_type other.now ty)) }
         ensures rising { IsRisingBelow 256 self.now × IsRisingBelow 256 other.now }
     {
-        self.words
-            .iter()
-            .zip(other.words.iter())
-            .any(|(mine, theirs)| mine & theirs != 0)
+        share_a_bit(&self.words, &other.words)
     }
 
     /// The number of types in the set.
@@ -119,7 +159,14 @@ impl TypeSet {
         ensures bound { result ≤ 256 }
         ensures rising { IsRisingBelow 256 self.now }
     {
-        self.words.iter().map(|word| word.count_ones()).sum()
+        count_bits(&self.words)
+    }
+
+    /// Says whether no type is in the set.
+    pub fn is_empty(&self) -> bool
+        ensures { IsTrue result ↔ (self.now ≡ []) }
+    {
+        self.len() == 0
     }
 
     /// The first type of the set whose number is `from` or more.
@@ -128,16 +175,12 @@ impl TypeSet {
         ensures rising { IsRisingBelow 256 self.now }
     {
         let start = usize::from(from / 64);
+        let mut lowest = u32::from(from % 64);
         for place in start..self.words.len() {
-            let word = self.words[place];
-            let left = if place == start {
-                word & (u64::MAX << (from % 64))
-            } else {
-                word
-            };
-            if left != 0 {
-                return Some(TypeId((place * 64) as u16 + left.trailing_zeros() as u16));
+            if let Some(bit) = first_bit(self.words[place], lowest) {
+                return Some(TypeId(64 * place as u16 + bit as u16));
             }
+            lowest = 0;
         }
         None
     }
