@@ -1,3 +1,6 @@
 pub mod Padding
-pub mod TypeSetLemmas
 pub mod TypeBits
+pub mod TypeCounts
+pub mod TypePairs
+pub mod TypeScan
+pub mod TypeSetLemmas

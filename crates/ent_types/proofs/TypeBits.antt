@@ -1,14 +1,14 @@
 -- the types that words hold, bit by bit
 use Rattle.std.proofs.Common.{◌≡◌, ℕ, zero, suc, ◌+◌, ◌-◌, ◌*◌, ◌/◌, ◌%◌, ◌^◌, ◌<◌, ◌≤◌, ◌⊎◌, inl, inr, Bool, true, false, not, ◌&&◌, ◌||◌, cond, eqb, List, [], ◌∷◌, length, get_or, set, refl, sym, ap, ap₂, ◌∙◌, subst, arith, All, zero-lt-suc, sum_by, bit_and, bit_or, count_ones, w64, pow_pos}
 use Rattle.std.proofs.lemmas.Bool.{cond_both, cases_eq, cases_lt, ne_eqb, eq-eqb, eqb-false, eqb-true}
-use Rattle.std.proofs.lemmas.List.{get_or-set_same, get_or-set_other, length-set}
+use Rattle.std.proofs.lemmas.List.{get_or-set_same, get_or-set_other, get_or_past, length-set}
 use Rattle.std.proofs.lemmas.List.Elements.{All-tail, All-set}
 use Rattle.std.specs.Int.{bit_at, bit_not}
 use Rattle.std.proofs.lemmas.Nat.{or_lt, and_le_l, one_shl}
 use Rattle.std.proofs.lemmas.Nat.Bits.{bit_at_lowest, bit_at-suc, bit_at-zero, bit_at_cat_low, bit_at_cat_high, bit_at_set_same, bit_at_set_other, bit_at_clear_same, bit_at_clear_other}
 use Rattle.ent_types.specs.TypeSets.{IsRisingFrom, IsRisingBelow, has_type, with_type, without_type}
 use Rattle.ent_types.specs.TypeWords.{ones_from, number_of, types_of, IsWords}
-use Rattle.ent_types.proofs.TypeSetLemmas.{IsRisingFrom-lower, IsRisingFrom-with_type, IsRisingFrom-without_type, has_type_below, has_type-with_type, has_type-without_type, same_types}
+use Rattle.ent_types.proofs.TypeSetLemmas.{IsRisingFrom-lower, IsRisingFrom-with_type, IsRisingFrom-without_type, has_type_below, has_type_above, has_type-with_type, has_type-without_type, same_types}
 
 -- ---- the types that words hold
 
@@ -55,6 +55,18 @@ has_type-ones_from at (suc count) n (suc i) within =
 abbrev pub type_bit : List ℕ → ℕ → ℕ
 type_bit words t = bit_at (get_or words (t / 64) 0) (t % 64)
 
+pub type_bit-low : (w : ℕ) (ws : List ℕ) (t : ℕ) → t < 64 → type_bit (w ∷ ws) t ≡ bit_at w t
+type_bit-low w ws t low =
+    let word : t / 64 ≡ 0 = omega arith in
+    let place : t % 64 ≡ t = omega arith in
+    ap₂ (λ k i. bit_at (get_or (w ∷ ws) k 0) i) word place
+
+pub type_bit-high : (w : ℕ) (ws : List ℕ) (t : ℕ) → 64 ≤ t → type_bit (w ∷ ws) t ≡ type_bit ws (t - 64)
+type_bit-high w ws t high =
+    let word : t / 64 ≡ suc ((t - 64) / 64) = omega arith in
+    let place : t % 64 ≡ (t - 64) % 64 = omega arith in
+    ap₂ (λ k i. bit_at (get_or (w ∷ ws) k 0) i) word place
+
 -- the bits of the number are those of its words
 pub bit_at-number_of : (words : List ℕ) → All (λ w. w < 2 ^ 64) words → (i : ℕ) → bit_at (number_of words) i ≡ type_bit words i
 bit_at-number_of [] within i = bit_at-zero i ∙ sym (bit_at-zero (i % 64))
@@ -62,25 +74,43 @@ bit_at-number_of (w ∷ ws) within i =
     let here : w < 2 ^ 64 = within 0 0 (zero-lt-suc (length ws)) in
     let turned : w + 2 ^ 64 * number_of ws ≡ number_of ws * 2 ^ 64 + w = omega arith in
     ap (λ n. bit_at n i) turned ∙ elim (cases_lt i 64) [
-        inl low ↦
-            let word : i / 64 ≡ 0 = omega arith in
-            let place : i % 64 ≡ i = omega arith in
-            bit_at_cat_low (number_of ws) 64 w i low ∙ sym (ap₂ (λ k j. bit_at (get_or (w ∷ ws) k 0) j) word place)
+        inl low ↦ bit_at_cat_low (number_of ws) 64 w i low ∙ sym (type_bit-low w ws i low)
       | inr high ↦
-            let word : i / 64 ≡ suc ((i - 64) / 64) = omega arith in
-            let place : i % 64 ≡ (i - 64) % 64 = omega arith in
             bit_at_cat_high (number_of ws) 64 w i here high
             ∙ bit_at-number_of ws (All-tail (λ v. v < 2 ^ 64) w ws within) (i - 64)
-            ∙ sym (ap₂ (λ k j. bit_at (get_or (w ∷ ws) k 0) j) word place)
+            ∙ sym (type_bit-high w ws i high)
     ]
 
--- a type is there exactly where its bit is 1
-pub has_type-types_of : (words : List ℕ) → IsWords words → (t : ℕ) → t < 256 → has_type (types_of words) t ≡ eqb (type_bit words t) 1
-has_type-types_of words holds t within =
+bit_of_type : (words : List ℕ) → IsWords words → (t : ℕ) → t < 256 → has_type (types_of words) t ≡ eqb (type_bit words t) 1
+bit_of_type words holds t within =
     let here : 0 + t ≡ t = omega arith in
     ap (has_type (types_of words)) (sym here)
     ∙ has_type-ones_from 0 256 (number_of words) t within
     ∙ ap (λ b. eqb b 1) (bit_at-number_of words holds.within t)
+
+-- past the words there is no bit
+pub type_bit-past : (words : List ℕ) → IsWords words → (t : ℕ) → 256 ≤ t → type_bit words t ≡ 0
+type_bit-past words holds t above =
+    ap (λ w. bit_at w (t % 64)) (get_or_past words (t / 64) 0 (omega (arith, holds.four))) ∙ bit_at-zero (t % 64)
+
+-- a type is there exactly where its bit is 1
+pub has_type-types_of : (words : List ℕ) → IsWords words → (t : ℕ) → has_type (types_of words) t ≡ eqb (type_bit words t) 1
+has_type-types_of words holds t =
+    elim (cases_lt t 256) [
+        inl within ↦ bit_of_type words holds t within
+      | inr above ↦
+            has_type_above 0 256 (types_of words) t (IsRisingBelow-types_of words) above
+            ∙ sym (ap (λ b. eqb b 1) (type_bit-past words holds t above))
+    ]
+
+pub has_type-from_bit : (words : List ℕ) → IsWords words → (t : ℕ) → type_bit words t ≡ 1 → has_type (types_of words) t ≡ true
+has_type-from_bit words holds t e = has_type-types_of words holds t ∙ eq-eqb (type_bit words t) 1 e
+
+pub bit_from-has_type : (words : List ℕ) → IsWords words → (t : ℕ) → has_type (types_of words) t ≡ true → type_bit words t ≡ 1
+bit_from-has_type words holds t has = eqb-true (type_bit words t) 1 (sym (has_type-types_of words holds t) ∙ has)
+
+pub has_type-from_no_bit : (words : List ℕ) → IsWords words → (t : ℕ) → type_bit words t ≡ 0 → has_type (types_of words) t ≡ false
+has_type-from_no_bit words holds t e = has_type-types_of words holds t ∙ ap (λ b. eqb b 1) e
 
 -- ---- one word changed
 
@@ -125,8 +155,8 @@ types_of-with words ty holds within =
         (IsRisingBelow-types_of changed)
         (IsRisingFrom-with_type 0 256 (types_of words) ty (IsRisingBelow-types_of words) (omega arith) within)
         (λ t t_within.
-            has_type-types_of changed still t t_within ∙ bits t k_below place_below (cases_eq (t / 64) (ty / 64)) (cases_eq (t % 64) (ty % 64))
-            ∙ ap (λ b. eqb ty t || b) (sym (has_type-types_of words holds t t_within)) ∙ sym (has_type-with_type (types_of words) ty t))
+            has_type-types_of changed still t ∙ bits t k_below place_below (cases_eq (t / 64) (ty / 64)) (cases_eq (t % 64) (ty % 64))
+            ∙ ap (λ b. eqb ty t || b) (sym (has_type-types_of words holds t)) ∙ sym (has_type-with_type (types_of words) ty t))
   where
     bits : (t : ℕ) → ty / 64 < 4 → ty % 64 < 64 → (t / 64 ≡ ty / 64) ⊎ (t / 64 ≡ ty / 64 → ⊥) → (t % 64 ≡ ty % 64) ⊎ (t % 64 ≡ ty % 64 → ⊥)
         → eqb (type_bit (set words (ty / 64) (word_with (get_or words (ty / 64) 0) (ty % 64))) t) 1 ≡ (eqb ty t || eqb (type_bit words t) 1)
@@ -165,8 +195,8 @@ types_of-without words ty holds within =
         (IsRisingBelow-types_of changed)
         (IsRisingFrom-without_type 0 256 (types_of words) ty (IsRisingBelow-types_of words))
         (λ t t_within.
-            has_type-types_of changed still t t_within ∙ bits t k_below place_below (cases_eq (t / 64) (ty / 64)) (cases_eq (t % 64) (ty % 64))
-            ∙ ap (λ b. not (eqb t ty) && b) (sym (has_type-types_of words holds t t_within)) ∙ sym (has_type-without_type (types_of words) ty t))
+            has_type-types_of changed still t ∙ bits t k_below place_below (cases_eq (t / 64) (ty / 64)) (cases_eq (t % 64) (ty % 64))
+            ∙ ap (λ b. not (eqb t ty) && b) (sym (has_type-types_of words holds t)) ∙ sym (has_type-without_type (types_of words) ty t))
   where
     bits : (t : ℕ) → ty / 64 < 4 → ty % 64 < 64 → (t / 64 ≡ ty / 64) ⊎ (t / 64 ≡ ty / 64 → ⊥) → (t % 64 ≡ ty % 64) ⊎ (t % 64 ≡ ty % 64 → ⊥)
         → eqb (type_bit (set words (ty / 64) (word_without (get_or words (ty / 64) 0) (ty % 64))) t) 1 ≡ (not (eqb t ty) && eqb (type_bit words t) 1)

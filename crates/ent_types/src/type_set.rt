@@ -190,7 +190,9 @@ impl TypeSet {
         ensures value { result ≡ self.now }
         ensures rising { IsRisingBelow 256 self.now }
     {
-        Types { left: *self }
+        Types {
+            left: TypeSet { words: self.words },
+        }
     }
 }
 

@@ -9,7 +9,7 @@ pub returns-clause-value : goal.returns-clause-value
 returns-clause-value c =
     ap (λ b. eqb b 1) (shr_and_one _ (c.args.ty.0 % 64))
     ∙ ap (λ k. eqb (bit_at (get_or c.self.inside.words k 0) (c.args.ty.0 % 64)) 1) c.from.ensures
-    ∙ sym (has_type-types_of c.self.inside.words c.self.invariant c.args.ty.0 c.requires)
+    ∙ sym (has_type-types_of c.self.inside.words c.self.invariant c.args.ty.0)
     ∙ ap (λ types. has_type types c.args.ty.0) c.self.view_is
 
 pub returns-clause-rising : goal.returns-clause-rising
