@@ -4,3 +4,4 @@ pub mod TypeCounts
 pub mod TypePairs
 pub mod TypeScan
 pub mod TypeSetLemmas
+pub mod VersionLemmas

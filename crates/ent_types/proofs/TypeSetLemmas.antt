@@ -1,6 +1,6 @@
 -- facts about rising lists of types
-use Rattle.std.proofs.Common.{◌≡◌, ℕ, suc, ◌⊎◌, inl, inr, le_refl, ◌+◌, ◌-◌, ◌<◌, ◌≤◌, Bool, true, false, not, ◌&&◌, ◌||◌, cond, eqb, ltb, leb, List, [], ◌∷◌, length, Option, Some, None, refl, sym, ap, ◌∙◌, subst, arith, eqb-true, ltb-false, ltb-true, le_trans}
-use Rattle.std.proofs.lemmas.Bool.{cond_both, cond-true, cond-false, cases_order, ne_eqb, eq-eqb, eqb-false, true≢false, false≢true, cases_lt, or_cases, or_left, or_right, or_parts, and_parts, and_from, lt-leb, le-leb}
+use Rattle.std.proofs.Common.{◌≡◌, ℕ, suc, ◌⊎◌, inl, inr, le_refl, ◌+◌, ◌-◌, ◌<◌, ◌≤◌, Bool, true, false, not, ◌&&◌, ◌||◌, cond, eqb, ltb, leb, List, [], ◌∷◌, length, Option, Some, None, refl, sym, ap, ◌∙◌, subst, arith, eqb-true, ltb-false, ltb-true, le_trans, zero-le}
+use Rattle.std.proofs.lemmas.Bool.{cond_both, cond-true, cond-false, cases_order, ne_eqb, eq-eqb, eqb-false, true≢false, false≢true, cases_lt, or_cases, or_left, or_right, or_parts, and_parts, and_from, lt-leb, le-leb, not_from_true, not_from_false}
 use Rattle.std.specs.Bool.{Decides}
 use Rattle.std.specs.List.{filter, find, list_any, list_all}
 use Rattle.ent_types.specs.TypeSets.{IsRisingFrom, IsRisingBelow, has_type, with_type, without_type, is_subset_of, meets, next_type}
@@ -231,3 +231,38 @@ next_type-some low high (x ∷ xs) from ty rising le has none =
       | inr (inr lt) ↦
             absurd (false≢true (sym (has_type_below x high (x ∷ xs) ty (le_refl x, rising.1, rising.2) lt) ∙ has))
     ]
+
+-- ---- a walk over the types
+
+-- nothing comes first only where nothing is there
+pub next_type-empty : (types : List ℕ) → next_type types 0 ≡ None → types ≡ []
+next_type-empty [] none = refl
+next_type-empty (x ∷ xs) none =
+    let first : next_type (x ∷ xs) 0 ≡ Some x = cond-true (leb 0 x) (Some x) (next_type xs 0) (le-leb 0 x zero-le) in
+    cc
+
+-- a filter that passes all keeps all
+filter_all : (low high x : ℕ) (types : List ℕ) → IsRisingFrom low high types → x < low → filter (λ y. not (eqb y x)) types ≡ types
+filter_all low high x [] rising below = refl
+filter_all low high x (y ∷ ys) rising below =
+    let kept : not (eqb y x) ≡ true = not_from_false (eqb y x) (ne_eqb y x (λ e. omega (arith, rising.0))) in
+    cond-true (not (eqb y x)) (y ∷ filter (λ z. not (eqb z x)) ys) (filter (λ z. not (eqb z x)) ys) kept
+    ∙ ap (λ l. y ∷ l) (filter_all (y + 1) high x ys rising.2 (omega (arith, rising.0)))
+
+-- the first type, and then the others
+pub first_and_others : (high x : ℕ) (types : List ℕ) → IsRisingFrom 0 high types → Some x ≡ next_type types 0
+    → (x < high) × (types ≡ x ∷ without_type types x)
+first_and_others high x [] rising is = cc
+first_and_others high x (y ∷ ys) rising is =
+    let first : next_type (y ∷ ys) 0 ≡ Some y = cond-true (leb 0 y) (Some y) (next_type ys 0) (le-leb 0 y zero-le) in
+    let same : x ≡ y = some_same (is ∙ first) in
+    let gone : not (eqb y x) ≡ false = not_from_true (eqb y x) (eq-eqb y x (sym same)) in
+    (
+        subst (λ n. n < high) (sym same) rising.1,
+        ap (λ n. n ∷ ys) (sym same)
+        ∙ ap (λ l. x ∷ l) (sym (cond-false (not (eqb y x)) (y ∷ filter (λ z. not (eqb z x)) ys) (filter (λ z. not (eqb z x)) ys) gone
+            ∙ filter_all (y + 1) high x ys rising.2 (omega arith)))
+    )
+  where
+    some_same : {y : ℕ} → Some x ≡ Some y → x ≡ y
+    some_same e = cc
