@@ -3,5 +3,8 @@ pub mod TypeBits
 pub mod TypeCounts
 pub mod TypePairs
 pub mod TypeScan
+pub mod TypeSetLaws
 pub mod TypeSetLemmas
+pub mod TypeSetRelations
+pub mod TypeWalk
 pub mod VersionLemmas

@@ -1,10 +1,10 @@
 -- the types that words hold, bit by bit
-use Rattle.std.proofs.Common.{◌≡◌, ℕ, zero, suc, ◌+◌, ◌-◌, ◌*◌, ◌/◌, ◌%◌, ◌^◌, ◌<◌, ◌≤◌, ◌⊎◌, inl, inr, Bool, true, false, not, ◌&&◌, ◌||◌, cond, eqb, List, [], ◌∷◌, length, get_or, set, refl, sym, ap, ap₂, ◌∙◌, subst, arith, All, zero-lt-suc, sum_by, bit_and, bit_or, count_ones, w64, pow_pos}
-use Rattle.std.proofs.lemmas.Bool.{cond_both, cases_eq, cases_lt, ne_eqb, eq-eqb, eqb-false, eqb-true}
+use Rattle.std.proofs.Common.{◌≡◌, ℕ, zero, suc, ◌+◌, ◌-◌, ◌*◌, ◌/◌, ◌%◌, ◌^◌, ◌<◌, ◌≤◌, ◌⊎◌, inl, inr, true, false, not, ◌&&◌, ◌||◌, eqb, List, [], ◌∷◌, length, get_or, set, sym, ap, ap₂, ◌∙◌, subst, arith, All, zero-lt-suc, bit_and, bit_or, w64}
+use Rattle.std.proofs.lemmas.Bool.{cond_both, cases_eq, cases_lt, ne_eqb, eq-eqb, eqb-true}
 use Rattle.std.proofs.lemmas.List.{get_or-set_same, get_or-set_other, get_or_past, length-set}
 use Rattle.std.proofs.lemmas.List.Elements.{All-tail, All-set}
 use Rattle.std.specs.Int.{bit_at, bit_not}
-use Rattle.std.proofs.lemmas.Nat.{or_lt, and_le_l, one_shl}
+use Rattle.std.proofs.lemmas.Nat.{or_lt, and_le_l}
 use Rattle.std.proofs.lemmas.Nat.Bits.{bit_at_lowest, bit_at-suc, bit_at-zero, bit_at_cat_low, bit_at_cat_high, bit_at_set_same, bit_at_set_other, bit_at_clear_same, bit_at_clear_other}
 use Rattle.ent_types.specs.TypeSets.{IsRisingFrom, IsRisingBelow, has_type, with_type, without_type}
 use Rattle.ent_types.specs.TypeWords.{ones_from, number_of, types_of, IsWords}
@@ -19,10 +19,10 @@ IsRisingFrom-ones_from at zero n = tt
 IsRisingFrom-ones_from at (suc count) n =
     let next : at + 1 + count ≡ at + suc count = omega arith in
     let rest : IsRisingFrom (at + 1) (at + suc count) (ones_from (at + 1) count (n / 2)) =
-        subst (λ high. IsRisingFrom (at + 1) high (ones_from (at + 1) count (n / 2))) next (IsRisingFrom-ones_from (at + 1) count (n / 2)) in
+    subst (λ high. IsRisingFrom (at + 1) high (ones_from (at + 1) count (n / 2))) next (IsRisingFrom-ones_from (at + 1) count (n / 2)) in
     cond_both (eqb (n % 2) 1) (at ∷ ones_from (at + 1) count (n / 2)) (ones_from (at + 1) count (n / 2)) (IsRisingFrom at (at + suc count))
-        (λ _. (omega arith, omega arith, rest))
-        (λ _. IsRisingFrom-lower (at + 1) at (at + suc count) (ones_from (at + 1) count (n / 2)) (omega arith) rest)
+    (λ _. (omega arith, omega arith, rest))
+    (λ _. IsRisingFrom-lower (at + 1) at (at + suc count) (ones_from (at + 1) count (n / 2)) (omega arith) rest)
 
 -- the types that words hold are a set
 pub IsRisingBelow-types_of : (words : List ℕ) → IsRisingBelow 256 (types_of words)
@@ -35,21 +35,21 @@ has_type-ones_from at zero n i within = absurd (omega arith)
 has_type-ones_from at (suc count) n zero within =
     let here : at + 0 ≡ at = omega arith in
     cond_both (eqb (n % 2) 1) (at ∷ ones_from (at + 1) count (n / 2)) (ones_from (at + 1) count (n / 2))
-        (λ types. has_type types (at + 0) ≡ eqb (bit_at n 0) 1)
-        (λ e. ap (λ b. b || has_type (ones_from (at + 1) count (n / 2)) (at + 0)) (eq-eqb at (at + 0) (sym here))
-            ∙ sym (ap (λ b. eqb b 1) (bit_at_lowest n) ∙ e))
-        (λ ne. has_type_below (at + 1) (at + 1 + count) (ones_from (at + 1) count (n / 2)) (at + 0) (IsRisingFrom-ones_from (at + 1) count (n / 2)) (omega arith)
-            ∙ sym (ap (λ b. eqb b 1) (bit_at_lowest n) ∙ ne))
+    (λ types. has_type types (at + 0) ≡ eqb (bit_at n 0) 1)
+    (λ e. ap (λ b. b || has_type (ones_from (at + 1) count (n / 2)) (at + 0)) (eq-eqb at (at + 0) (sym here))
+    ∙ sym (ap (λ b. eqb b 1) (bit_at_lowest n) ∙ e))
+    (λ ne. has_type_below (at + 1) (at + 1 + count) (ones_from (at + 1) count (n / 2)) (at + 0) (IsRisingFrom-ones_from (at + 1) count (n / 2)) (omega arith)
+    ∙ sym (ap (λ b. eqb b 1) (bit_at_lowest n) ∙ ne))
 has_type-ones_from at (suc count) n (suc i) within =
     let there : at + suc i ≡ at + 1 + i = omega arith in
     let rest : has_type (ones_from (at + 1) count (n / 2)) (at + suc i) ≡ eqb (bit_at n (suc i)) 1 =
-        ap (has_type (ones_from (at + 1) count (n / 2))) there
-        ∙ has_type-ones_from (at + 1) count (n / 2) i (omega arith)
-        ∙ ap (λ b. eqb b 1) (sym (bit_at-suc n i)) in
+    ap (has_type (ones_from (at + 1) count (n / 2))) there
+    ∙ has_type-ones_from (at + 1) count (n / 2) i (omega arith)
+    ∙ ap (λ b. eqb b 1) (sym (bit_at-suc n i)) in
     cond_both (eqb (n % 2) 1) (at ∷ ones_from (at + 1) count (n / 2)) (ones_from (at + 1) count (n / 2))
-        (λ types. has_type types (at + suc i) ≡ eqb (bit_at n (suc i)) 1)
-        (λ _. ap (λ b. b || has_type (ones_from (at + 1) count (n / 2)) (at + suc i)) (ne_eqb at (at + suc i) (λ e. omega arith)) ∙ rest)
-        (λ _. rest)
+    (λ types. has_type types (at + suc i) ≡ eqb (bit_at n (suc i)) 1)
+    (λ _. ap (λ b. b || has_type (ones_from (at + 1) count (n / 2)) (at + suc i)) (ne_eqb at (at + suc i) (λ e. omega arith)) ∙ rest)
+    (λ _. rest)
 
 -- the bit of a type
 abbrev pub type_bit : List ℕ → ℕ → ℕ
@@ -74,11 +74,11 @@ bit_at-number_of (w ∷ ws) within i =
     let here : w < 2 ^ 64 = within 0 0 (zero-lt-suc (length ws)) in
     let turned : w + 2 ^ 64 * number_of ws ≡ number_of ws * 2 ^ 64 + w = omega arith in
     ap (λ n. bit_at n i) turned ∙ elim (cases_lt i 64) [
-        inl low ↦ bit_at_cat_low (number_of ws) 64 w i low ∙ sym (type_bit-low w ws i low)
+      | inl low ↦ bit_at_cat_low (number_of ws) 64 w i low ∙ sym (type_bit-low w ws i low)
       | inr high ↦
-            bit_at_cat_high (number_of ws) 64 w i here high
-            ∙ bit_at-number_of ws (All-tail (λ v. v < 2 ^ 64) w ws within) (i - 64)
-            ∙ sym (type_bit-high w ws i high)
+          bit_at_cat_high (number_of ws) 64 w i here high
+          ∙ bit_at-number_of ws (All-tail (λ v. v < 2 ^ 64) w ws within) (i - 64)
+          ∙ sym (type_bit-high w ws i high)
     ]
 
 bit_of_type : (words : List ℕ) → IsWords words → (t : ℕ) → t < 256 → has_type (types_of words) t ≡ eqb (type_bit words t) 1
@@ -97,10 +97,10 @@ type_bit-past words holds t above =
 pub has_type-types_of : (words : List ℕ) → IsWords words → (t : ℕ) → has_type (types_of words) t ≡ eqb (type_bit words t) 1
 has_type-types_of words holds t =
     elim (cases_lt t 256) [
-        inl within ↦ bit_of_type words holds t within
+      | inl within ↦ bit_of_type words holds t within
       | inr above ↦
-            has_type_above 0 256 (types_of words) t (IsRisingBelow-types_of words) above
-            ∙ sym (ap (λ b. eqb b 1) (type_bit-past words holds t above))
+          has_type_above 0 256 (types_of words) t (IsRisingBelow-types_of words) above
+          ∙ sym (ap (λ b. eqb b 1) (type_bit-past words holds t above))
     ]
 
 pub has_type-from_bit : (words : List ℕ) → IsWords words → (t : ℕ) → type_bit words t ≡ 1 → has_type (types_of words) t ≡ true
@@ -150,27 +150,27 @@ types_of-with words ty holds within =
     let k_below : ty / 64 < 4 = omega arith in
     let place_below : ty % 64 < 64 = omega arith in
     let still : IsWords changed =
-        IsWords-set words holds (ty / 64) _ (word_with_below (get_or words (ty / 64) 0) (ty % 64) (word_below words holds (ty / 64) k_below)) in
+    IsWords-set words holds (ty / 64) _ (word_with_below (get_or words (ty / 64) 0) (ty % 64) (word_below words holds (ty / 64) k_below)) in
     same_types 0 256 (types_of changed) (with_type (types_of words) ty)
-        (IsRisingBelow-types_of changed)
-        (IsRisingFrom-with_type 0 256 (types_of words) ty (IsRisingBelow-types_of words) (omega arith) within)
-        (λ t t_within.
-            has_type-types_of changed still t ∙ bits t k_below place_below (cases_eq (t / 64) (ty / 64)) (cases_eq (t % 64) (ty % 64))
-            ∙ ap (λ b. eqb ty t || b) (sym (has_type-types_of words holds t)) ∙ sym (has_type-with_type (types_of words) ty t))
+    (IsRisingBelow-types_of changed)
+    (IsRisingFrom-with_type 0 256 (types_of words) ty (IsRisingBelow-types_of words) (omega arith) within)
+    (λ t t_within.
+    has_type-types_of changed still t ∙ bits t k_below place_below (cases_eq (t / 64) (ty / 64)) (cases_eq (t % 64) (ty % 64))
+    ∙ ap (λ b. eqb ty t || b) (sym (has_type-types_of words holds t)) ∙ sym (has_type-with_type (types_of words) ty t))
   where
     bits : (t : ℕ) → ty / 64 < 4 → ty % 64 < 64 → (t / 64 ≡ ty / 64) ⊎ (t / 64 ≡ ty / 64 → ⊥) → (t % 64 ≡ ty % 64) ⊎ (t % 64 ≡ ty % 64 → ⊥)
         → eqb (type_bit (set words (ty / 64) (word_with (get_or words (ty / 64) 0) (ty % 64))) t) 1 ≡ (eqb ty t || eqb (type_bit words t) 1)
     bits t k_below place_below (inl word) (inl place) =
         ap (λ b. eqb b 1)
-            (type_bit-set_same words holds (ty / 64) _ t k_below word
-            ∙ ap (bit_at (word_with (get_or words (ty / 64) 0) (ty % 64))) place
-            ∙ bit_at_set_same w64 (get_or words (ty / 64) 0) (ty % 64) place_below)
+        (type_bit-set_same words holds (ty / 64) _ t k_below word
+        ∙ ap (bit_at (word_with (get_or words (ty / 64) 0) (ty % 64))) place
+        ∙ bit_at_set_same w64 (get_or words (ty / 64) 0) (ty % 64) place_below)
         ∙ sym (ap (λ b. b || eqb (type_bit words t) 1) (eq-eqb ty t (same_place t ty word place)))
     bits t k_below place_below (inl word) (inr other) =
         ap (λ b. eqb b 1)
-            (type_bit-set_same words holds (ty / 64) _ t k_below word
-            ∙ bit_at_set_other w64 (get_or words (ty / 64) 0) (ty % 64) place_below (t % 64) other
-            ∙ ap (λ k. bit_at (get_or words k 0) (t % 64)) (sym word))
+        (type_bit-set_same words holds (ty / 64) _ t k_below word
+        ∙ bit_at_set_other w64 (get_or words (ty / 64) 0) (ty % 64) place_below (t % 64) other
+        ∙ ap (λ k. bit_at (get_or words k 0) (t % 64)) (sym word))
         ∙ sym (ap (λ b. b || eqb (type_bit words t) 1) (ne_eqb ty t (λ e. other (ap (λ n. n % 64) (sym e)))))
     bits t k_below place_below (inr other) _ =
         ap (λ b. eqb b 1) (type_bit-set_other words (ty / 64) _ t other)
@@ -190,27 +190,27 @@ types_of-without words ty holds within =
     let k_below : ty / 64 < 4 = omega arith in
     let place_below : ty % 64 < 64 = omega arith in
     let still : IsWords changed =
-        IsWords-set words holds (ty / 64) _ (word_without_below (get_or words (ty / 64) 0) (ty % 64) (word_below words holds (ty / 64) k_below)) in
+    IsWords-set words holds (ty / 64) _ (word_without_below (get_or words (ty / 64) 0) (ty % 64) (word_below words holds (ty / 64) k_below)) in
     same_types 0 256 (types_of changed) (without_type (types_of words) ty)
-        (IsRisingBelow-types_of changed)
-        (IsRisingFrom-without_type 0 256 (types_of words) ty (IsRisingBelow-types_of words))
-        (λ t t_within.
-            has_type-types_of changed still t ∙ bits t k_below place_below (cases_eq (t / 64) (ty / 64)) (cases_eq (t % 64) (ty % 64))
-            ∙ ap (λ b. not (eqb t ty) && b) (sym (has_type-types_of words holds t)) ∙ sym (has_type-without_type (types_of words) ty t))
+    (IsRisingBelow-types_of changed)
+    (IsRisingFrom-without_type 0 256 (types_of words) ty (IsRisingBelow-types_of words))
+    (λ t t_within.
+    has_type-types_of changed still t ∙ bits t k_below place_below (cases_eq (t / 64) (ty / 64)) (cases_eq (t % 64) (ty % 64))
+    ∙ ap (λ b. not (eqb t ty) && b) (sym (has_type-types_of words holds t)) ∙ sym (has_type-without_type (types_of words) ty t))
   where
     bits : (t : ℕ) → ty / 64 < 4 → ty % 64 < 64 → (t / 64 ≡ ty / 64) ⊎ (t / 64 ≡ ty / 64 → ⊥) → (t % 64 ≡ ty % 64) ⊎ (t % 64 ≡ ty % 64 → ⊥)
         → eqb (type_bit (set words (ty / 64) (word_without (get_or words (ty / 64) 0) (ty % 64))) t) 1 ≡ (not (eqb t ty) && eqb (type_bit words t) 1)
     bits t k_below place_below (inl word) (inl place) =
         ap (λ b. eqb b 1)
-            (type_bit-set_same words holds (ty / 64) _ t k_below word
-            ∙ ap (bit_at (word_without (get_or words (ty / 64) 0) (ty % 64))) place
-            ∙ bit_at_clear_same w64 (get_or words (ty / 64) 0) (ty % 64) place_below)
+        (type_bit-set_same words holds (ty / 64) _ t k_below word
+        ∙ ap (bit_at (word_without (get_or words (ty / 64) 0) (ty % 64))) place
+        ∙ bit_at_clear_same w64 (get_or words (ty / 64) 0) (ty % 64) place_below)
         ∙ sym (ap (λ b. not b && eqb (type_bit words t) 1) (eq-eqb t ty (sym (same_place t ty word place))))
     bits t k_below place_below (inl word) (inr other) =
         ap (λ b. eqb b 1)
-            (type_bit-set_same words holds (ty / 64) _ t k_below word
-            ∙ bit_at_clear_other w64 (get_or words (ty / 64) 0) (ty % 64) place_below (t % 64) (omega arith) other
-            ∙ ap (λ k. bit_at (get_or words k 0) (t % 64)) (sym word))
+        (type_bit-set_same words holds (ty / 64) _ t k_below word
+        ∙ bit_at_clear_other w64 (get_or words (ty / 64) 0) (ty % 64) place_below (t % 64) (omega arith) other
+        ∙ ap (λ k. bit_at (get_or words k 0) (t % 64)) (sym word))
         ∙ sym (ap (λ b. not b && eqb (type_bit words t) 1) (ne_eqb t ty (λ e. other (ap (λ n. n % 64) e))))
     bits t k_below place_below (inr other) _ =
         ap (λ b. eqb b 1) (type_bit-set_other words (ty / 64) _ t other)

@@ -1,5 +1,5 @@
 -- how many types words hold
-use Rattle.std.proofs.Common.{◌≡◌, ℕ, zero, suc, ◌+◌, ◌-◌, ◌*◌, ◌/◌, ◌%◌, ◌^◌, ◌<◌, ◌≤◌, cond, eqb, List, [], ◌∷◌, length, refl, sym, ap, ap₂, ◌∙◌, subst, arith, All, zero-lt-suc, sum_by, count_ones, add_comm, add-one}
+use Rattle.std.proofs.Common.{◌≡◌, ℕ, zero, suc, ◌+◌, ◌*◌, ◌/◌, ◌%◌, ◌^◌, ◌<◌, ◌≤◌, eqb, List, [], ◌∷◌, length, sym, ap, ◌∙◌, subst, arith, All, zero-lt-suc, sum_by, count_ones, add_comm, add-one}
 use Rattle.std.proofs.lemmas.Bool.{cond_both, eqb-false, eqb-true}
 use Rattle.std.proofs.lemmas.List.Elements.{All-tail}
 use Rattle.std.proofs.lemmas.List.Sums.{sum_by-cons}
@@ -20,9 +20,9 @@ length-ones_from at (suc count) n within =
     let half : n / 2 < 2 ^ count = shr_below n count 1 (subst (λ k. n < 2 ^ k) (sym (add-one count)) within) in
     let rest : length (ones_from (at + 1) count (n / 2)) ≡ count_ones (n / 2) = length-ones_from (at + 1) count (n / 2) half in
     cond_both (eqb (n % 2) 1) (at ∷ ones_from (at + 1) count (n / 2)) (ones_from (at + 1) count (n / 2))
-        (λ types. length types ≡ count_ones n)
-        (λ e. let one : n % 2 ≡ 1 = eqb-true (n % 2) 1 e in omega (arith, ones_step n))
-        (λ ne. let other : n % 2 ≡ 1 → ⊥ = eqb-false (n % 2) 1 ne in omega (arith, ones_step n))
+    (λ types. length types ≡ count_ones n)
+    (λ e. let one : n % 2 ≡ 1 = eqb-true (n % 2) 1 e in omega (arith, ones_step n))
+    (λ ne. let other : n % 2 ≡ 1 → ⊥ = eqb-false (n % 2) 1 ne in omega (arith, ones_step n))
 
 count_ones-number_of : (words : List ℕ) → All (λ w. w < 2 ^ 64) words → count_ones (number_of words) ≡ sum_by count_ones words
 count_ones-number_of [] within = no_ones

@@ -1,5 +1,5 @@
 -- the first type from a number on
-use Rattle.std.proofs.Common.{◌≡◌, ℕ, Some, None, List, get_or, ap₂, ◌+◌, ◌-◌, ◌*◌, ◌/◌, ◌%◌, ◌^◌, ◌<◌, ◌≤◌, ◌⊎◌, inl, inr, min, refl, sym, ap, ◌∙◌, subst, arith, bit_and, w64}
+use Rattle.std.proofs.Common.{◌≡◌, ℕ, Some, None, List, get_or, ap₂, ◌+◌, ◌-◌, ◌*◌, ◌/◌, ◌%◌, ◌^◌, ◌<◌, ◌≤◌, ◌⊎◌, inl, inr, min, sym, ap, ◌∙◌, arith, bit_and, w64}
 use Rattle.std.proofs.lemmas.Bool.{cases_lt}
 use Rattle.std.proofs.lemmas.Nat.{and_le_l}
 use Rattle.std.proofs.lemmas.Nat.Bits.{bit_at_and, bit_at-lt, bit_at-zero, bit_at_mask_inside, bit_at_mask_below, bit_at-trailing_zeros, ones_shl}
@@ -7,7 +7,7 @@ use Rattle.std.specs.Int.{bit_at, trailing_zeros}
 use Rattle.ent_types.specs.TypeSets.{next_type}
 use Rattle.ent_types.specs.TypeWords.{HasNoBit, IsFirstBit, types_of, IsWords}
 use Rattle.ent_types.proofs.TypeBits.{type_bit, type_bit-past, has_type-from_bit, has_type-from_no_bit, IsRisingBelow-types_of}
-use Rattle.ent_types.proofs.TypeSetLemmas.{next_type-none, next_type-some}
+use Rattle.ent_types.proofs.TypeWalk.{next_type-none, next_type-some}
 
 -- ---- one word
 
@@ -41,7 +41,7 @@ first_bit_left word from within below some =
     let found = bit_at-trailing_zeros w64 (left_from word from) (omega arith) (omega (arith, and_le_l word ((2 ^ 64 - 1) * 2 ^ from % 2 ^ 64))) in
     let place : ℕ = trailing_zeros w64 (left_from word from) in
     let above : from ≤ trailing_zeros w64 (left_from word from) =
-        from_above (trailing_zeros w64 (left_from word from)) found.1 (cases_lt (trailing_zeros w64 (left_from word from)) from) in
+    from_above (trailing_zeros w64 (left_from word from)) found.1 (cases_lt (trailing_zeros w64 (left_from word from)) from) in
     record {
       above = above;
       within = found.0;
@@ -99,9 +99,9 @@ pub Scanned-some : (words : List ℕ) (from place lowest bit : ℕ) → IsWords 
     → IsFirstBit (get_or words place 0) lowest bit → next_type (types_of words) from ≡ Some (64 * place + bit)
 Scanned-some words from place lowest bit holds scanned found =
     next_type-some 0 256 (types_of words) from (64 * place + bit) (IsRisingBelow-types_of words)
-        (omega (arith, scanned.reached, found.above))
-        (has_type-from_bit words holds (64 * place + bit) (bit_here words place bit found.within ∙ found.is_set))
-        (λ t above below. has_type-from_no_bit words holds t (earlier t above below (cases_lt t (64 * place + lowest))))
+    (omega (arith, scanned.reached, found.above))
+    (has_type-from_bit words holds (64 * place + bit) (bit_here words place bit found.within ∙ found.is_set))
+    (λ t above below. has_type-from_no_bit words holds t (earlier t above below (cases_lt t (64 * place + lowest))))
   where
     earlier : (t : ℕ) → from ≤ t → t < 64 * place + bit → (t < 64 * place + lowest) ⊎ (64 * place + lowest ≤ t) → type_bit words t ≡ 0
     earlier t above below (inl lt) = scanned.none t above lt

@@ -1,19 +1,19 @@
 -- versions and the moments that they stand for
-use Rattle.std.proofs.Common.{◌≡◌, ℕ, zero, suc, ◌+◌, ◌-◌, ◌*◌, ◌/◌, ◌%◌, ◌^◌, ◌<◌, ◌≤◌, ◌⊎◌, inl, inr, Bool, true, false, ◌||◌, cond, eqb, refl, sym, ap, ap₂, ◌∙◌, subst, arith, add-one, w32, ℤ, pos, ◌-ℤ◌, ◌+ℤ◌, eqb-true}
-use Rattle.std.proofs.lemmas.Bool.{cond_both, cases_lt, cases_eq, eqb-false, ne_eqb, eq-eqb, false≢true, true≢false}
+use Rattle.std.proofs.Common.{◌≡◌, ℕ, zero, suc, ◌+◌, ◌-◌, ◌%◌, ◌^◌, ◌<◌, ◌≤◌, ◌||◌, eqb, refl, ap, ap₂, ◌∙◌, arith, add-one, w32, pos, ◌-ℤ◌, eqb-true}
+use Rattle.std.proofs.lemmas.Bool.{cond_both, eqb-false, ne_eqb}
 use Rattle.std.proofs.lemmas.Bool.Decides.{nat_tests, Decides-at, Decides-like}
 use Rattle.std.specs.Bool.{Decides}
-use Rattle.std.specs.Int.{int_wrap, cast_signed, int_rem_euclid}
+use Rattle.std.specs.Int.{int_wrap, cast_signed}
 use Rattle.std.specs.Prelude.{int_lt, unsigned_abs}
-use Rattle.std.proofs.lemmas.Int.{int_rem_euclid_is, ints, to_z_pos}
+use Rattle.std.proofs.lemmas.Int.{int_rem_euclid_is, ints}
 use Rattle.ent_types.specs.Versions.{next_version, version_of, IsVersion, IsMoment, is_later}
 
 -- one version on
 next_in_range : (n : ℕ) → n < 4294967295 → next_version (1 + n) ≡ 1 + (n + 1) % 4294967295
 next_in_range n within =
     cond_both (eqb (1 + n) 4294967295) 1 (1 + n + 1) (λ v. v ≡ 1 + (n + 1) % 4294967295)
-        (λ e. let last : 1 + n ≡ 4294967295 = eqb-true (1 + n) 4294967295 e in omega arith)
-        (λ ne. let before : 1 + n ≡ 4294967295 → ⊥ = eqb-false (1 + n) 4294967295 ne in omega arith)
+    (λ e. let last : 1 + n ≡ 4294967295 = eqb-true (1 + n) 4294967295 e in omega arith)
+    (λ ne. let before : 1 + n ≡ 4294967295 → ⊥ = eqb-false (1 + n) 4294967295 ne in omega arith)
 
 -- the version of a moment, by one formula
 pub version_of-is : (first moment : ℕ) → IsVersion first → version_of first (suc moment) ≡ 1 + (first - 1 + moment) % 4294967295
@@ -49,7 +49,7 @@ is_positive n within = grind (arith, ints, nat_tests)
 -- the later of two moments has the greater version, but for a wrap
 difference_above : (start changed seen : ℕ) → start < 4294967295 → changed ≤ 26200001 → seen ≤ 26200001 → seen < changed
     → (0 < difference (1 + (start + changed) % 4294967295) (1 + (start + seen) % 4294967295))
-        × (difference (1 + (start + changed) % 4294967295) (1 + (start + seen) % 4294967295) < 2 ^ 31)
+    × (difference (1 + (start + changed) % 4294967295) (1 + (start + seen) % 4294967295) < 2 ^ 31)
 difference_above start changed seen within changed_within seen_within later = (omega arith, omega arith)
 
 difference_not_above : (start changed seen : ℕ) → start < 4294967295 → changed ≤ 26200001 → seen ≤ 26200001
@@ -62,9 +62,9 @@ difference_tells : (start changed seen : ℕ) → start < 4294967295 → changed
     → Decides (int_lt (pos 0) (cast_signed w32 (difference (1 + (start + changed) % 4294967295) (1 + (start + seen) % 4294967295)))) (seen < changed)
 difference_tells start changed seen within changed_within seen_within =
     Decides-like _
-        (λ both. difference_not_above start changed seen within changed_within seen_within both.0 both.1)
-        (λ later. difference_above start changed seen within changed_within seen_within later)
-        (is_positive (difference (1 + (start + changed) % 4294967295) (1 + (start + seen) % 4294967295)) (omega arith))
+    (λ both. difference_not_above start changed seen within changed_within seen_within both.0 both.1)
+    (λ later. difference_above start changed seen within changed_within seen_within later)
+    (is_positive (difference (1 + (start + changed) % 4294967295) (1 + (start + seen) % 4294967295)) (omega arith))
 
 -- the version of a moment, where moments count from 1
 version_at : (first moment : ℕ) → IsVersion first → IsMoment moment → version_of first moment ≡ 1 + (first - 1 + (moment - 1)) % 4294967295
@@ -84,11 +84,11 @@ pub is_later-moments : (first changed seen : ℕ) → IsVersion first → IsMome
     → Decides (is_later (version_of first changed) (version_of first seen)) (seen < changed)
 is_later-moments first changed seen version changed_is seen_is =
     Decides-at _ _
-        (ap₂ is_later (version_at first changed version changed_is) (version_at first seen version seen_is)
-        ∙ is_later-difference _ (1 + (first - 1 + (seen - 1)) % 4294967295) (omega arith) (λ e. omega arith))
-        (Decides-like _ (λ lt. omega (arith, changed_is.from_one, seen_is.from_one)) (λ lt. omega (arith, changed_is.from_one, seen_is.from_one))
-            (difference_tells (first - 1) (changed - 1) (seen - 1)
-                (omega (arith, version.from_one, version.within)) (omega (arith, changed_is.within)) (omega (arith, seen_is.within))))
+    (ap₂ is_later (version_at first changed version changed_is) (version_at first seen version seen_is)
+    ∙ is_later-difference _ (1 + (first - 1 + (seen - 1)) % 4294967295) (omega arith) (λ e. omega arith))
+    (Decides-like _ (λ lt. omega (arith, changed_is.from_one, seen_is.from_one)) (λ lt. omega (arith, changed_is.from_one, seen_is.from_one))
+    (difference_tells (first - 1) (changed - 1) (seen - 1)
+    (omega (arith, version.from_one, version.within)) (omega (arith, changed_is.within)) (omega (arith, seen_is.within))))
 
 -- no moment has the version 0
 pub version_of-some : (first moment : ℕ) → IsVersion first → IsMoment moment → 0 < version_of first moment

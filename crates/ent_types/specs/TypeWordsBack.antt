@@ -1,5 +1,5 @@
 -- the types of a set give its words back
-use Rattle.std.proofs.Common.{◌≡◌, ℕ, zero, suc, ◌+◌, ◌-◌, ◌*◌, ◌/◌, ◌%◌, ◌^◌, ◌<◌, ◌≤◌, Bool, true, false, cond, eqb, List, [], ◌∷◌, length, refl, sym, ap, ap₂, ◌∙◌, subst, arith, eqb-true, pow-suc, pow_pos, All, add-one, lit<, mul_comm, zero-lt-suc}
+use Rattle.std.proofs.Common.{◌≡◌, ℕ, zero, suc, ◌+◌, ◌*◌, ◌/◌, ◌%◌, ◌^◌, ◌<◌, eqb, List, [], ◌∷◌, length, refl, sym, ap, ap₂, ◌∙◌, subst, arith, eqb-true, pow-suc, All, add-one, lit<, mul_comm, zero-lt-suc}
 use native.Mathlib.Nat.{zero-mul, mul-one}
 use Rattle.std.proofs.lemmas.Bool.{cond_both, eqb-false}
 use Rattle.std.proofs.lemmas.Nat.{shr_below, mul-add-lt, mod_low, shr_high, pow-add}
@@ -31,11 +31,11 @@ unfolding ones_from
 number_with-ones_from at zero n within = let none : n ≡ 0 = omega arith in sym (ap (λ m. m * 2 ^ at) none ∙ zero-mul (2 ^ at))
 number_with-ones_from at (suc count) n within =
     let rest : number_with (ones_from (at + 1) count (n / 2)) ≡ n / 2 * (2 * 2 ^ at) =
-        number_with-ones_from (at + 1) count (n / 2) (half_below n count within) ∙ ap (λ p. n / 2 * p) (pow-add_one at) in
+    number_with-ones_from (at + 1) count (n / 2) (half_below n count within) ∙ ap (λ p. n / 2 * p) (pow-add_one at) in
     cond_both (eqb (n % 2) 1) (at ∷ ones_from (at + 1) count (n / 2)) (ones_from (at + 1) count (n / 2))
-        (λ types. number_with types ≡ n * 2 ^ at)
-        (λ e. digit_step (2 ^ at) (n / 2) _ rest ∙ sym (ap (λ m. m * 2 ^ at) (odd n (eqb-true (n % 2) 1 e))))
-        (λ ne. digit_step' (2 ^ at) (n / 2) _ rest ∙ sym (ap (λ m. m * 2 ^ at) (even n (eqb-false (n % 2) 1 ne))))
+    (λ types. number_with types ≡ n * 2 ^ at)
+    (λ e. digit_step (2 ^ at) (n / 2) _ rest ∙ sym (ap (λ m. m * 2 ^ at) (odd n (eqb-true (n % 2) 1 e))))
+    (λ ne. digit_step' (2 ^ at) (n / 2) _ rest ∙ sym (ap (λ m. m * 2 ^ at) (even n (eqb-false (n % 2) 1 ne))))
 
 -- some words are below the power of their bits
 pub number_of_below : (words : List ℕ) → All (λ w. w < 2 ^ 64) words → number_of words < 2 ^ (64 * length words)
@@ -44,7 +44,7 @@ number_of_below (w ∷ ws) within =
     let rest : number_of ws < 2 ^ (64 * length ws) = number_of_below ws (All-tail (λ w. w < 2 ^ 64) w ws within) in
     let bits : 64 * suc (length ws) ≡ 64 + 64 * length ws = omega arith in
     let below : number_of ws * 2 ^ 64 + w < 2 ^ 64 * 2 ^ (64 * length ws) =
-        mul-add-lt (number_of ws) (2 ^ 64) w (2 ^ (64 * length ws)) rest (within 0 0 (zero-lt-suc (length ws))) in
+    mul-add-lt (number_of ws) (2 ^ 64) w (2 ^ (64 * length ws)) rest (within 0 0 (zero-lt-suc (length ws))) in
     rw (bits, pow-add) (omega arith)
 
 -- the number of some words gives the words back
@@ -55,8 +55,8 @@ words_from-number_of (w ∷ ws) within =
     let rest : words_from (length ws) (number_of ws) ≡ ws = words_from-number_of ws (All-tail (λ w. w < 2 ^ 64) w ws within) in
     let turned : w + 2 ^ 64 * number_of ws ≡ number_of ws * 2 ^ 64 + w = omega arith in
     ap₂ (λ low high. low ∷ words_from (length ws) high)
-        (ap (λ n. n % 2 ^ 64) turned ∙ mod_low (number_of ws) 64 w here)
-        (ap (λ n. n / 2 ^ 64) turned ∙ shr_high (number_of ws) 64 w here)
+    (ap (λ n. n % 2 ^ 64) turned ∙ mod_low (number_of ws) 64 w here)
+    (ap (λ n. n / 2 ^ 64) turned ∙ shr_high (number_of ws) 64 w here)
     ∙ ap (λ l. w ∷ l) rest
 
 -- the types give the words back

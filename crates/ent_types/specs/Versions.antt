@@ -1,5 +1,5 @@
 -- system versions: moments count up without end, and a version is a moment kept in 32 bits
-use Rattle.std.specs.Prelude.{◌≡◌, ℕ, zero, suc, ◌+◌, ◌^◌, ◌<◌, ◌≤◌, Bool, ◌||◌, ◌==◌, if◌then◌else◌, pos, ◌-ℤ◌, int_lt}
+use Rattle.std.specs.Prelude.{ℕ, zero, suc, ◌+◌, ◌^◌, ◌<◌, ◌≤◌, Bool, ◌||◌, ◌==◌, if◌then◌else◌, pos, ◌-ℤ◌, int_lt}
 use Rattle.std.specs.Int.{int_wrap, w32}
 
 -- one more, or 1 after the largest, so that no version is 0

@@ -189,6 +189,7 @@ impl TypeSet {
     pub fn iter(&self) -> Types
         ensures value { result ≡ self.now }
         ensures rising { IsRisingBelow 256 self.now }
+        ensures bound { length self.now ≤ 256 }
     {
         Types {
             left: TypeSet { words: self.words },
@@ -228,3 +229,6 @@ impl Iterator for Types {
         Some(first)
     }
 }
+
+#[cfg(test)]
+mod tests;

@@ -1,4 +1,4 @@
-use Rattle.std.proofs.Common.{◌∙◌, ap, sym, subst, eqb, get_or, ◌/◌, ◌%◌}
+use Rattle.std.proofs.Common.{◌∙◌, ap, sym, subst, eqb, get_or, ◌%◌}
 use Rattle.std.proofs.lemmas.Nat.Bits.{shr_and_one}
 use Rattle.std.specs.Int.{bit_at}
 use Rattle.ent_types.specs.TypeSets.{has_type, IsRisingBelow}

@@ -3,7 +3,7 @@ use Rattle.std.proofs.lemmas.Bool.Decides.{Decides-at}
 use Rattle.ent_types.specs.TypeSets.{is_subset_of, IsRisingBelow}
 use Rattle.ent_types.proofs.TypeBits.{IsRisingBelow-types_of}
 use Rattle.ent_types.proofs.TypePairs.{is_covered-types_of}
-use Rattle.ent_types.proofs.TypeSetLemmas.{Decides-is_subset_of}
+use Rattle.ent_types.proofs.TypeSetRelations.{Decides-is_subset_of}
 use Rattle.ent_types.proofs.type_set.TypeSet.is_subset.Goals as goal
 
 answer : (c : goal.After-are_covered) → c.are_covered.result ≡ is_subset_of c.args.self.now c.args.other.now
@@ -19,6 +19,6 @@ returns-clause-each c = Decides-at c.are_covered.result _ (answer c) (Decides-is
 
 pub returns-clause-rising : goal.returns-clause-rising
 returns-clause-rising c = (
-    subst (IsRisingBelow 256) c.self.view_is (IsRisingBelow-types_of c.self.inside.words),
-    subst (IsRisingBelow 256) c.other.view_is (IsRisingBelow-types_of c.other.inside.words)
+  subst (IsRisingBelow 256) c.self.view_is (IsRisingBelow-types_of c.self.inside.words),
+  subst (IsRisingBelow 256) c.other.view_is (IsRisingBelow-types_of c.other.inside.words),
 )

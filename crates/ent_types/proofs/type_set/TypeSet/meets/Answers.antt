@@ -3,7 +3,7 @@ use Rattle.std.proofs.lemmas.Bool.Decides.{Decides-at}
 use Rattle.ent_types.specs.TypeSets.{meets, IsRisingBelow}
 use Rattle.ent_types.proofs.TypeBits.{IsRisingBelow-types_of}
 use Rattle.ent_types.proofs.TypePairs.{is_shared-types_of}
-use Rattle.ent_types.proofs.TypeSetLemmas.{Decides-meets}
+use Rattle.ent_types.proofs.TypeSetRelations.{Decides-meets}
 use Rattle.ent_types.proofs.type_set.TypeSet.meets.Goals as goal
 
 answer : (c : goal.After-share_a_bit) → c.share_a_bit.result ≡ meets c.args.self.now c.args.other.now
@@ -19,6 +19,6 @@ returns-clause-some c = Decides-at c.share_a_bit.result _ (answer c) (Decides-me
 
 pub returns-clause-rising : goal.returns-clause-rising
 returns-clause-rising c = (
-    subst (IsRisingBelow 256) c.self.view_is (IsRisingBelow-types_of c.self.inside.words),
-    subst (IsRisingBelow 256) c.other.view_is (IsRisingBelow-types_of c.other.inside.words)
+  subst (IsRisingBelow 256) c.self.view_is (IsRisingBelow-types_of c.self.inside.words),
+  subst (IsRisingBelow 256) c.other.view_is (IsRisingBelow-types_of c.other.inside.words),
 )

@@ -1,4 +1,4 @@
-use Rattle.std.proofs.Common.{◌∙◌, ap, ap₂, sym, subst, subst₂, arith}
+use Rattle.std.proofs.Common.{◌∙◌, ap, sym, subst, subst₂, arith}
 use Rattle.ent_types.specs.TypeSets.{IsRisingBelow, next_type}
 use Rattle.ent_types.proofs.TypeBits.{IsRisingBelow-types_of}
 use Rattle.ent_types.proofs.TypeScan.{Scanned, Scanned-start, Scanned-more, Scanned-some, Scanned-none}
@@ -7,7 +7,7 @@ use Rattle.ent_types.proofs.type_set.TypeSet.next_from.Goals as goal
 pub loop-place-init : goal.loop-place-init
 loop-place-init c =
     subst₂ (Scanned c.self.inside.words c.args.from) (sym c.from-start.ensures) (sym c.from-lowest.ensures)
-        (Scanned-start c.self.inside.words c.args.from)
+    (Scanned-start c.self.inside.words c.args.from)
 
 pub first_bit-requires : goal.first_bit-requires
 first_bit-requires c = c.loop-place.invariant.within
@@ -27,7 +27,7 @@ loop-place-preserved c =
 pub returns-clause-value : goal.returns-clause-value
 returns-clause-value c =
     sym (Scanned-none c.self.inside.words c.args.from c.loop-place.place c.loop-place.lowest c.self.invariant c.loop-place.invariant
-        (omega (arith, c.loop-place-test.false)))
+    (omega (arith, c.loop-place-test.false)))
     ∙ ap (λ types. next_type types c.args.from) c.self.view_is
 
 pub returns-clause-rising : goal.returns-clause-rising

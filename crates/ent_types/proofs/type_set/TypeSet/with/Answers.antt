@@ -6,7 +6,7 @@ use Rattle.ent_types.proofs.type_set.TypeSet.with.Goals as goal
 pub invariant_of-result : goal.invariant_of-result
 invariant_of-result c =
     IsWords-set c.self.inside.words c.self.invariant c.from.result _
-        (word_with_below _ _ (word_below c.self.inside.words c.self.invariant c.from.result (omega (arith, c.from.ensures))))
+    (word_with_below _ _ (word_below c.self.inside.words c.self.invariant c.from.result (omega (arith, c.from.ensures))))
 
 pub returns-clause-value : goal.returns-clause-value
 returns-clause-value c =

@@ -1,7 +1,5 @@
-use Rattle.std.proofs.Common.{◌≡◌, ℕ, ◌∙◌, ap, sym, subst, arith, length, List, [], ◌∷◌, ◌<◌, rules}
-use Rattle.std.proofs.lemmas.Grind.{common_steps}
-use Rattle.ent_types.specs.TypeSets.{without_type}
-use Rattle.ent_types.proofs.TypeSetLemmas.{next_type-empty, first_and_others}
+use Rattle.std.proofs.Common.{◌≡◌, ◌∙◌, ap, sym, length, [], ◌∷◌, rules}
+use Rattle.ent_types.proofs.TypeWalk.{next_type-empty, first_and_others}
 use Rattle.ent_types.proofs.type_set.TypesIterator.next.Goals as goal
 
 first : (c : goal.After-self-1) → c.args.self.now ≡ c.in_ok-first.first.0 ∷ c.without-self-inside.result

@@ -1,9 +1,8 @@
-use Rattle.std.proofs.Common.{◌≡◌, ℕ, ◌∙◌, ap, ap₂, sym, arith, pos, w32, to_z, of_z, ◌<◌, rules}
+use Rattle.std.proofs.Common.{◌≡◌, ◌∙◌, ap, ap₂, sym, arith, pos, w32, to_z, of_z, rules}
 use Rattle.std.specs.Prelude.{int_lt}
-use Rattle.std.specs.Bool.{Decides}
 use Rattle.std.proofs.lemmas.Bool.Decides.{Decides-at}
 use Rattle.std.proofs.lemmas.Int.{to_z-of_z}
-use Rattle.ent_types.specs.Versions.{is_later, IsVersion, IsMoment, version_of}
+use Rattle.ent_types.specs.Versions.{is_later}
 use Rattle.ent_types.proofs.VersionLemmas.{is_later-difference, is_later-moments, version_of-some}
 use Rattle.ent_types.proofs.version.SystemVersion.did_change.Goals as goal
 

@@ -1,5 +1,5 @@
-use Rattle.std.proofs.Common.{◌∙◌, ap, sym, cond}
-use Rattle.std.proofs.lemmas.Bool.{eq-eqb, ne_eqb, cond-true, cond-false}
+use Rattle.std.proofs.Common.{◌∙◌, ap, sym}
+use Rattle.std.proofs.lemmas.Bool.{ne_eqb, cond-false}
 use Rattle.ent_types.specs.Versions.{next_version}
 use Rattle.ent_types.proofs.VersionLemmas.{version_of-next}
 use Rattle.ent_types.proofs.version.SystemVersion.next.Goals as goal
