@@ -1,9 +1,8 @@
 -- facts about rising lists of types
-use Rattle.std.proofs.Common.{◌≡◌, ℕ, ◌⊎◌, inl, inr, le_refl, ◌+◌, ◌-◌, ◌<◌, ◌≤◌, Bool, true, false, not, ◌&&◌, ◌||◌, cond, eqb, ltb, leb, List, [], ◌∷◌, length, Some, None, refl, sym, ap, ◌∙◌, subst, arith, eqb-true, ltb-false, ltb-true, le_trans, zero-le}
-use Rattle.std.proofs.lemmas.Bool.{cond_both, cond-true, cond-false, cases_order, ne_eqb, eq-eqb, eqb-false, true≢false, false≢true, cases_lt, or_cases, or_left, or_right, or_parts, and_parts, and_from, lt-leb, le-leb, not_from_true, not_from_false}
-use Rattle.std.specs.Bool.{Decides}
+use Rattle.std.proofs.Common.{◌≡◌, ℕ, ◌⊎◌, inl, inr, ◌+◌, ◌-◌, ◌<◌, ◌≤◌, Bool, true, false, not, ◌&&◌, ◌||◌, cond, eqb, ltb, List, [], ◌∷◌, length, refl, sym, ap, ◌∙◌, subst, arith, eqb-true, ltb-false, ltb-true, le_trans}
+use Rattle.std.proofs.lemmas.Bool.{cond_both, cases_order, ne_eqb, eq-eqb, eqb-false, true≢false, false≢true, cases_lt}
 use Rattle.std.specs.List.{filter}
-use Rattle.ent_types.specs.TypeSets.{IsRisingFrom, has_type, with_type, without_type, is_subset_of, meets, next_type}
+use Rattle.ent_types.specs.TypeSets.{IsRisingFrom, has_type, with_type, without_type}
 
 -- ---- order
 

@@ -1,10 +1,9 @@
 -- what it means that a set of types is in another, and that two sets meet
-use Rattle.std.proofs.Common.{◌≡◌, ℕ, suc, ◌⊎◌, inl, inr, le_refl, ◌+◌, ◌-◌, ◌<◌, ◌≤◌, Bool, true, false, not, ◌&&◌, ◌||◌, cond, eqb, ltb, leb, List, [], ◌∷◌, ◌++◌, length, Option, Some, None, refl, sym, ap, ap₂, ◌∙◌, subst, arith, eqb-true, ltb-false, ltb-true, le_trans, zero-le}
-use Rattle.std.proofs.lemmas.Bool.{cond_both, cond-true, cond-false, cases_order, cases_eq, cases_Bool, ne_eqb, eq-eqb, eqb-false, true≢false, false≢true, cases_lt, or_cases, or_left, or_right, or_parts, and_parts, and_from, lt-leb, le-leb, lt-ltb, le-ltb, not_from_true, not_from_false}
+use Rattle.std.proofs.Common.{◌≡◌, ℕ, inl, inr, true, eqb, List, [], ◌∷◌, refl, sym, subst, eqb-true}
+use Rattle.std.proofs.lemmas.Bool.{eq-eqb, false≢true, or_cases, or_left, or_right, and_parts, and_from}
 use Rattle.std.proofs.lemmas.Bool.Decides.{same_from_decides, Decides-like}
 use Rattle.std.specs.Bool.{Decides}
-use Rattle.std.specs.List.{filter, find, list_any, list_all}
-use Rattle.ent_types.specs.TypeSets.{IsRisingFrom, IsRisingBelow, has_type, with_type, without_type, is_subset_of, meets, next_type}
+use Rattle.ent_types.specs.TypeSets.{IsRisingFrom, has_type, is_subset_of, meets}
 use Rattle.ent_types.proofs.TypeSetLemmas.{same_types}
 
 -- each type of the first set is in the second
@@ -66,12 +65,12 @@ pub same_from_subsets : (low high : ℕ) (types others : List ℕ) → IsRisingF
     → is_subset_of types others ≡ true → is_subset_of others types ≡ true → types ≡ others
 same_from_subsets low high types others rising rising' first second =
     same_types low high types others rising rising' (λ t _.
-        same_from_decides _ _ (is_subset_of-each types others first t, is_subset_of-each others types second t) (λ has. has, λ has. has))
+    same_from_decides _ _ (is_subset_of-each types others first t, is_subset_of-each others types second t) (λ has. has, λ has. has))
 
 pub meets-comm : (types others : List ℕ) → meets types others ≡ meets others types
 meets-comm types others =
     same_from_decides _ _ (Decides-meets types others)
-        (Decides-like _ (λ found. (found.0, found.2, found.1)) (λ found. (found.0, found.2, found.1)) (Decides-meets others types))
+    (Decides-like _ (λ found. (found.0, found.2, found.1)) (λ found. (found.0, found.2, found.1)) (Decides-meets others types))
 
 -- a set that meets none of what it is in is empty
 pub meets-subset : (types others more : List ℕ) → is_subset_of types others ≡ true → meets types more ≡ true → meets others more ≡ true

@@ -1,10 +1,8 @@
 -- the next type of a set, and a walk over its types
-use Rattle.std.proofs.Common.{◌≡◌, ℕ, suc, ◌⊎◌, inl, inr, le_refl, ◌+◌, ◌-◌, ◌<◌, ◌≤◌, Bool, true, false, not, ◌&&◌, ◌||◌, cond, eqb, ltb, leb, List, [], ◌∷◌, ◌++◌, length, Option, Some, None, refl, sym, ap, ap₂, ◌∙◌, subst, arith, eqb-true, ltb-false, ltb-true, le_trans, zero-le}
-use Rattle.std.proofs.lemmas.Bool.{cond_both, cond-true, cond-false, cases_order, cases_eq, cases_Bool, ne_eqb, eq-eqb, eqb-false, true≢false, false≢true, cases_lt, or_cases, or_left, or_right, or_parts, and_parts, and_from, lt-leb, le-leb, lt-ltb, le-ltb, not_from_true, not_from_false}
-use Rattle.std.proofs.lemmas.Bool.Decides.{same_from_decides, Decides-like}
-use Rattle.std.specs.Bool.{Decides}
-use Rattle.std.specs.List.{filter, find, list_any, list_all}
-use Rattle.ent_types.specs.TypeSets.{IsRisingFrom, IsRisingBelow, has_type, with_type, without_type, is_subset_of, meets, next_type}
+use Rattle.std.proofs.Common.{◌≡◌, ℕ, inl, inr, le_refl, ◌+◌, ◌<◌, ◌≤◌, true, false, not, ◌||◌, cond, eqb, ltb, leb, List, [], ◌∷◌, ◌++◌, Some, None, refl, sym, ap, ◌∙◌, subst, arith, zero-le}
+use Rattle.std.proofs.lemmas.Bool.{cond-true, cond-false, cases_order, ne_eqb, eq-eqb, true≢false, false≢true, cases_lt, or_parts, lt-leb, le-leb, le-ltb, not_from_true, not_from_false}
+use Rattle.std.specs.List.{filter}
+use Rattle.ent_types.specs.TypeSets.{IsRisingFrom, IsRisingBelow, has_type, with_type, without_type, next_type}
 use Rattle.ent_types.proofs.TypeSetLemmas.{IsRisingFrom-lower, has_type_below}
 
 -- ---- the next type

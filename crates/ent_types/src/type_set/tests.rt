@@ -67,7 +67,11 @@ fn the_next_type_is_the_first_from_a_number_on(rt: HostRuntime) {
         (320, None),
         (65535, None),
     ] {
-        assert_eq!(rt; set.next_from(from), next.map(|number: u8| ty(number)), "{from}");
+        assert_eq!(rt;
+            set.next_from(from),
+            next.map(|number: u8| ty(number)),
+            "{from}"
+        );
     }
 }
 
@@ -79,9 +83,24 @@ fn sets_are_compared_by_their_types(rt: HostRuntime) -> Result<(), Fail> {
         (vec![in alloc]?, vec![in alloc; 3]?, true, false),
         (vec![in alloc; 3]?, vec![in alloc]?, false, false),
         (vec![in alloc; 63]?, vec![in alloc; 64]?, false, false),
-        (vec![in alloc; 63, 128]?, vec![in alloc; 0, 63, 128]?, true, true),
-        (vec![in alloc; 63, 128]?, vec![in alloc; 63, 129, 255]?, false, true),
-        (vec![in alloc; 0, 64, 191, 255]?, vec![in alloc; 0, 64, 191, 255]?, true, true),
+        (
+            vec![in alloc; 63, 128]?,
+            vec![in alloc; 0, 63, 128]?,
+            true,
+            true,
+        ),
+        (
+            vec![in alloc; 63, 128]?,
+            vec![in alloc; 63, 129, 255]?,
+            false,
+            true,
+        ),
+        (
+            vec![in alloc; 0, 64, 191, 255]?,
+            vec![in alloc; 0, 64, 191, 255]?,
+            true,
+            true,
+        ),
     ];
     for (first, second, subset, meets) in cases {
         let set = set_of(first.as_slice());
