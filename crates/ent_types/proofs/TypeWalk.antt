@@ -1,6 +1,6 @@
 -- the next type of a set, and a walk over its types
 use Rattle.std.proofs.Common.{◌≡◌, ℕ, inl, inr, le_refl, ◌+◌, ◌<◌, ◌≤◌, true, false, not, ◌||◌, cond, eqb, ltb, leb, List, [], ◌∷◌, ◌++◌, Some, None, refl, sym, ap, ◌∙◌, subst, arith, zero-le}
-use Rattle.std.proofs.lemmas.Bool.{cond-true, cond-false, cases_order, ne_eqb, eq-eqb, true≢false, false≢true, cases_lt, or_parts, lt-leb, le-leb, le-ltb, not_from_true, not_from_false}
+use Rattle.std.proofs.lemmas.Bool.{cond-true, cond-false, cases_order, ne_eqb, eq-eqb, true≢false, false≢true, cases_lt, or_parts, lt-leb, le-leb, leb-true, cases_Bool, or_left, or_right, le-ltb, not_from_true, not_from_false}
 use Rattle.std.specs.List.{filter}
 use Rattle.ent_types.specs.TypeSets.{IsRisingFrom, IsRisingBelow, has_type, with_type, without_type, next_type}
 use Rattle.ent_types.proofs.TypeSetLemmas.{IsRisingFrom-lower, has_type_below}
@@ -38,6 +38,24 @@ next_type-some low high (x ∷ xs) from ty rising le has none =
           (λ t from_t t_ty. (or_parts (eqb x t) (has_type xs t) (none t from_t t_ty)).1)
       | inr (inr lt) ↦
           absurd (false≢true (sym (has_type_below x high (x ∷ xs) ty (le_refl x, rising.1, rising.2) lt) ∙ has))
+    ]
+
+-- the next type is there, and in range
+pub next_type-found : (low high : ℕ) (types : List ℕ) (from ty : ℕ) → IsRisingFrom low high types → Some ty ≡ next_type types from
+    → (from ≤ ty) × (ty < high) × (has_type types ty ≡ true)
+next_type-found low high [] from ty rising is = absurd cc
+next_type-found low high (x ∷ xs) from ty rising is =
+    elim (cases_Bool (leb from x)) [
+      | inl here ↦
+          let same : Some ty ≡ Some x = is ∙ cond-true (leb from x) (Some x) (next_type xs from) here in
+          let equal : ty ≡ x = cc in (
+            subst (λ n. from ≤ n) (sym equal) (leb-true from x here),
+            subst (λ n. n < high) (sym equal) rising.1,
+            or_left (eqb x ty) (has_type xs ty) (eq-eqb x ty (sym equal)),
+          )
+      | inr past ↦
+          let rest = next_type-found (x + 1) high xs from ty rising.2 (is ∙ cond-false (leb from x) (Some x) (next_type xs from) past) in
+          (rest.0, rest.1, or_right (eqb x ty) (has_type xs ty) rest.2)
     ]
 
 -- ---- a walk over the types

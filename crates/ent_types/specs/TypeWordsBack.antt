@@ -1,9 +1,11 @@
 -- the types of a set give its words back
-use Rattle.std.proofs.Common.{◌≡◌, ℕ, zero, suc, ◌+◌, ◌*◌, ◌/◌, ◌%◌, ◌^◌, ◌<◌, eqb, List, [], ◌∷◌, length, refl, sym, ap, ap₂, ◌∙◌, subst, arith, eqb-true, pow-suc, All, add-one, lit<, mul_comm, zero-lt-suc}
+use Rattle.std.proofs.Common.{◌≡◌, ℕ, zero, suc, ◌+◌, ◌*◌, ◌/◌, ◌%◌, ◌^◌, ◌<◌, eqb, List, [], ◌∷◌, length, refl, sym, ap, ap₂, ◌∙◌, subst, arith, eqb-true, true, pow-suc, All, add-one, lit<, mul_comm, zero-lt-suc}
 use native.Mathlib.Nat.{zero-mul, mul-one}
 use Rattle.std.proofs.lemmas.Bool.{cond_both, eqb-false}
 use Rattle.std.proofs.lemmas.Nat.{shr_below, mul-add-lt, mod_low, shr_high, pow-add}
 use Rattle.std.proofs.lemmas.List.Elements.{All-tail}
+use Rattle.std.proofs.lemmas.Slice.Eq.{bytes_eq-Decides}
+use Rattle.std.specs.Cmp.Lexicographic.{pointwise}
 use Rattle.ent_types.specs.TypeWords.{ones_from, number_of, types_of, number_with, words_from, words_of, IsWords}
 
 -- one binary digit: what stands above it counts double
@@ -67,3 +69,7 @@ words_of-types_of words holds =
     ap (words_from 4) (number_with-ones_from 0 256 (number_of words) below ∙ mul-one (number_of words))
     ∙ ap (λ k. words_from k (number_of words)) (sym holds.four)
     ∙ words_from-number_of words holds.within
+
+-- sets that are equal as the code compares them are one, so whatever is made of them is one too
+pub same_fed : {X : Type 0} (f : List ℕ → X) (a b : List ℕ) → pointwise eqb a b ≡ true → f a ≡ f b
+same_fed f a b equal = ap f ((bytes_eq-Decides a b).0 equal)

@@ -9,11 +9,13 @@ ghost use Rattle.ent_types.specs.TypeWords.{IsFirstBit, HasNoBit};
 ghost use Rattle.ent_types.specs.TypeSets.{IsRisingBelow, has_type, with_type, without_type, is_subset_of, meets, next_type};
 
 use crate::TypeId;
+use std::hash::{Hash, Hasher};
 use std::marker::Model;
 
 /// A set of types whose numbers are below 256. Contracts see the rising list of the numbers.
 ///
-/// It is one bit for each type, so no call takes memory, and each takes a few operations on words.
+/// It is one bit for each type, so no call takes memory, and each takes a few operations on words. Equal sets are
+/// equal lists. This project's own.
 #[derive(Clone, Copy, Debug)]
 pub struct TypeSet {
     // Type t is the bit t % 64 of word t / 64.
@@ -96,6 +98,21 @@ impl Eq for TypeSet {
     ghost laws = { nat_list_eq_equiv };
 }
 
+/// The words are hashed, so that a set may be a key.
+impl Hash for TypeSet {
+    ghost use Rattle.std.specs.Hash as fed;
+    ghost use Rattle.ent_types.specs.TypeWords.{words_of};
+    ghost use Rattle.ent_types.specs.TypeWordsBack.{same_fed};
+
+    ghost hash_input = { λ types. fed.slice fed.u64 (words_of types) };
+
+    ghost respects_eq = { λ a b equal. same_fed (λ types. fed.slice fed.u64 (words_of types)) a b equal };
+
+    fn hash<H: Hasher>(&self, state: &mut H) {
+        self.words.hash(state);
+    }
+}
+
 impl TypeSet {
     /// The set without a type.
     pub fn empty() -> TypeSet
@@ -172,6 +189,7 @@ impl TypeSet {
     /// The first type of the set whose number is `from` or more.
     pub fn next_from(&self, from: u16) -> Option<TypeId>
         ensures value { option_map (λ ty. ty.0) result ≡ next_type self.now from }
+        ensures found { IfSome result (λ ty. (from ≤ ty.0) × (ty.0 < 256) × IsTrue (has_type self.now ty.0)) }
         ensures rising { IsRisingBelow 256 self.now }
     {
         let start = usize::from(from / 64);
@@ -197,8 +215,10 @@ impl TypeSet {
     }
 }
 
-/// The types of a set, in rising order. Contracts see the list of the numbers of those that are left.
-#[derive(Clone, Copy, Debug)]
+/// A walk over the types of a set, in rising order. Contracts see the list of the numbers of those that are left.
+///
+/// It costs what the set has, and not 256. This project's own.
+#[derive(Debug, Drop)]
 pub struct Types {
     left: TypeSet,
 }
@@ -212,8 +232,6 @@ impl Model for Types {
     ghost coded = { coded_list coded_ℕ };
 
     ghost view = { λ s. s.left };
-
-    ghost inverse = { λ types. record { left = types } };
 }
 
 impl Iterator for Types {

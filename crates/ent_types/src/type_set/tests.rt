@@ -2,6 +2,7 @@
 ghost use Rattle.std.specs.Prelude.{◌<◌};
 
 use super::*;
+use std::hash::DefaultHasher;
 use std::test::Fail;
 
 /// Numbers at the borders of the words, in rising order.
@@ -111,4 +112,16 @@ fn sets_are_compared_by_their_types(rt: HostRuntime) -> Result<(), Fail> {
         assert_eq!(rt; set == other, first == second);
     }
     Ok(())
+}
+
+#[test]
+fn equal_sets_hash_alike(rt: HostRuntime) {
+    let mut first = DefaultHasher::new();
+    let mut second = DefaultHasher::new();
+    let mut third = DefaultHasher::new();
+    set_of(&[1, 64, 255]).hash(&mut first);
+    set_of(&[255, 64, 1]).hash(&mut second);
+    set_of(&[1, 64]).hash(&mut third);
+    assert_eq!(rt; first.finish(), second.finish());
+    assert_ne!(rt; first.finish(), third.finish());
 }

@@ -2,6 +2,7 @@ use Rattle.std.proofs.Common.{◌∙◌, ap, sym, subst, subst₂, arith}
 use Rattle.ent_types.specs.TypeSets.{IsRisingBelow, next_type}
 use Rattle.ent_types.proofs.TypeBits.{IsRisingBelow-types_of}
 use Rattle.ent_types.proofs.TypeScan.{Scanned, Scanned-start, Scanned-more, Scanned-some, Scanned-none}
+use Rattle.ent_types.proofs.TypeWalk.{next_type-found}
 use Rattle.ent_types.proofs.type_set.TypeSet.next_from.Goals as goal
 
 pub loop-place-init : goal.loop-place-init
@@ -16,6 +17,11 @@ pub returns-in-Some-clause-value : goal.returns-in-Some-clause-value
 returns-in-Some-clause-value c =
     sym (Scanned-some c.self.inside.words c.args.from c.loop-place.place c.loop-place.lowest c.in-Some.bit c.self.invariant c.loop-place.invariant c.in-Some.ensures.some)
     ∙ ap (λ types. next_type types c.args.from) c.self.view_is
+
+pub returns-in-Some-clause-found : goal.returns-in-Some-clause-found
+returns-in-Some-clause-found c =
+    next_type-found 0 256 c.args.self.now c.args.from _ (subst (IsRisingBelow 256) c.self.view_is (IsRisingBelow-types_of c.self.inside.words))
+    (returns-in-Some-clause-value c)
 
 pub returns-in-Some-clause-rising : goal.returns-in-Some-clause-rising
 returns-in-Some-clause-rising c = subst (IsRisingBelow 256) c.self.view_is (IsRisingBelow-types_of c.self.inside.words)
