@@ -3,15 +3,23 @@
 #![tactic(auto)]
 
 mod entity;
+mod kinds;
 mod memory;
 mod name;
+mod point;
+mod registry;
 mod sequence;
 mod steps;
+mod type_info;
 mod value;
 
 pub use entity::{Entity, TypeId};
+pub use kinds::{FieldKind, Kind, fit};
 pub use memory::Memory;
 pub use name::{LONGEST_NAME, Name};
+pub use point::Point;
+pub use registry::{MOST_FIELDS, MOST_TYPES, Registry, RegistryFault};
 pub use sequence::Sequence;
 pub use steps::Steps;
+pub use type_info::{FieldInfo, TypeInfo};
 pub use value::{Part, Parts, Value, Values};

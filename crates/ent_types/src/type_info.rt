@@ -1,0 +1,109 @@
+//! A type as it is declared: its name, its kind and its fields.
+ghost use Rattle.std.specs.Prelude.{◌≡◌, ◌<◌, ◌≤◌, length, map, OnOk, IfSome};
+ghost use Rattle.std.specs.List.{list_any};
+ghost use Rattle.ent_types.specs.Types.{same_name, has_shape, is_ref, are_distinct, field_names_of, is_lawful_type, field_named};
+
+use crate::{FieldKind, Kind, Memory, Name, Sequence};
+use std::alloc::Global;
+
+/// The greatest number of fields of a shared type.
+const MOST_SHARED_FIELDS: usize = 8;
+
+/// A field of a type.
+#[derive(Clone, Copy, Debug)]
+pub struct FieldInfo {
+    /// The field's name, which no other field of the type has.
+    pub name: Name,
+    /// What it holds.
+    pub kind: FieldKind,
+}
+
+/// A type as it is declared.
+#[derive(Debug, Drop)]
+pub struct TypeInfo {
+    /// The type's name, which no other type of the registry has.
+    pub name: Name,
+    /// What its values belong to.
+    pub kind: Kind,
+    /// Its fields, in order.
+    pub fields: Sequence<FieldInfo>,
+    /// Whether the type can be switched off in a row.
+    pub enableable: bool,
+}
+
+impl TypeInfo {
+    /// Says whether the type is well formed: a plain type has a field, a tag has none, and a shared type has 1 to 8,
+    /// none of them a ref; only plain types and tags may be enableable; and no two fields have one name.
+    ///
+    /// This project's own. The number of fields that a registry takes is tested by `Registry::add`.
+    pub fn is_lawful(&self) -> bool
+        ensures { result ≡ is_lawful_type self.now }
+    {
+        self.has_shape()
+            && (!self.enableable || self.kind.may_be_enableable())
+            && are_distinct(self.fields.as_slice())
+    }
+
+    fn has_shape(&self) -> bool
+        ensures { result ≡ has_shape self.now.kind self.now.fields }
+    {
+        let count = self.fields.len();
+        match self.kind {
+            Kind::Plain => count >= 1,
+            Kind::Tag => count == 0,
+            Kind::Shared => count >= 1 && count <= MOST_SHARED_FIELDS && !self.has_ref(),
+            Kind::Cleanup => true,
+        }
+    }
+
+    fn has_ref(&self) -> bool
+        ensures { result ≡ list_any is_ref self.now.fields }
+    {
+        self.fields
+            .as_slice()
+            .iter()
+            .any(|f| f.kind == FieldKind::Ref)
+    }
+
+    /// A copy of the type.
+    pub fn copy(&self, alloc: Global) -> Result<TypeInfo, Memory>
+        ensures { OnOk result (result ≡ Ok self.now) }
+    {
+        let fields = Vec::from_slice(alloc, self.fields.as_slice())?;
+        Ok(TypeInfo {
+            name: self.name,
+            kind: self.kind,
+            fields: Sequence::from_vec(fields),
+            enableable: self.enableable,
+        })
+    }
+
+    /// The place of the field with this name, from 0; `None` exactly where no field has it.
+    pub fn field_named(&self, name: &Name) -> Option<u8>
+        requires { length self.now.fields ≤ 64 }
+        ensures place { result ≡ field_named self.now name.now }
+        ensures within { IfSome result (λ at. at < length self.now.fields) }
+    {
+        let at = self.fields.as_slice().iter().position(|f| f.name == *name)?;
+        Some(at as u8)
+    }
+}
+
+/// Says whether no two fields have one name.
+fn are_distinct(fields: &[FieldInfo]) -> bool
+    ensures { result ≡ are_distinct (field_names_of fields.now) }
+{
+    for (i, field) in fields.iter().enumerate() {
+        if has_name(&fields[i + 1..], &field.name) {
+            return false;
+        }
+    }
+    true
+}
+
+/// Says whether a field has the name.
+fn has_name(fields: &[FieldInfo], name: &Name) -> bool
+    ensures { result ≡ list_any (same_name name.now) (field_names_of fields.now) }
+{
+    fields.iter().any(|f| f.name == *name)
+}
