@@ -1,1 +1,5 @@
+pub mod DistinctNames
+pub mod Lookups
 pub mod Padding
+pub mod RefusalLemmas
+pub mod RegistryLemmas

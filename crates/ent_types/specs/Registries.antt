@@ -24,17 +24,19 @@ plain_tag name = record { name = name; kind = Tag; fields = []; enableable = fal
 abbrev pub type_at : List TypeInfo → ℕ → TypeInfo
 type_at types n = slice_index_or types n (plain_tag [])
 
--- the types that each registry begins with
-unfoldable pub built_in_types : List TypeInfo
-built_in_types =
-    plain_tag (codes "Disabled")
-    ∷ (plain_tag (codes "Prefab")
-    ∷ (record {
+-- the shared type whose value is the number of the load that a row came with
+abbrev pub scene_tag_type : TypeInfo
+scene_tag_type =
+    record {
       name = codes "SceneTag";
       kind = Shared;
       fields = record { name = codes "scene"; kind = I64 } ∷ [];
       enableable = false;
-    } ∷ []))
+    }
+
+-- the types that each registry begins with
+unfoldable pub built_in_types : List TypeInfo
+built_in_types = plain_tag (codes "Disabled") ∷ (plain_tag (codes "Prefab") ∷ (scene_tag_type ∷ []))
 
 abbrev pub type_names : List TypeInfo → List (List ℕ)
 type_names types = map (λ t. t.name) types

@@ -71,16 +71,15 @@ pub fn fit(kind: FieldKind, value: i64) -> i64
     ensures { result ≡ fit_number kind value }
 {
     match kind {
-        FieldKind::I32 => low_half(value),
+        FieldKind::I32 => i64::from(low_half(value)),
         FieldKind::I64 => value,
         FieldKind::Ref => 0,
     }
 }
 
 /// The low 32 bits as a signed number.
-fn low_half(value: i64) -> i64
+fn low_half(value: i64) -> i32
     ensures { result ≡ int_wrap w32 value }
 {
-    let low = value.rem_euclid(1 << 32);
-    if low < 1 << 31 { low } else { low - (1 << 32) }
+    (value.rem_euclid(1 << 32) as u32).cast_signed()
 }

@@ -1,7 +1,9 @@
 //! The types of a scenario, by number and by name.
-ghost use Rattle.std.specs.Prelude.{◌≡◌, ◌<◌, ◌≤◌, [], ◌∷◌, ◌++◌, length, slice_get, option_map, IfSome, IsTrue, OnOk, OnErr, MatchResult, None};
-ghost use Rattle.ent_types.specs.Types.{is_lawful_type};
-ghost use Rattle.ent_types.specs.Registries.{type_id_named, type_at, built_in_types, IsLawfulRegistry};
+ghost use Rattle.std.specs.Prelude.{◌≡◌, ◌<◌, ◌≤◌, [], ◌∷◌, ◌++◌, length, slice_get, option_map, true, false, IfSome, IfOk, IsTrue, OnOk, OnErr, MatchResult, None};
+ghost use Rattle.std.specs.List.{list_any};
+ghost use Rattle.ent_types.specs.Names.{is_name};
+ghost use Rattle.ent_types.specs.Types.{same_name, are_distinct, is_lawful_type};
+ghost use Rattle.ent_types.specs.Registries.{type_id_named, type_at, type_names, plain_tag, scene_tag_type, built_in_types, IsLawfulRegistry};
 ghost use Rattle.ent_types.specs.Refusals.{refusal, IsDue};
 
 use crate::{FieldInfo, FieldKind, Kind, Memory, Name, Sequence, TypeId, TypeInfo};
@@ -75,7 +77,16 @@ impl Registry {
     pub fn new(alloc: Global) -> Result<Registry, Memory>
         ensures { OnOk result (result ≡ Ok built_in_types) }
     {
-        Err(Memory)
+        Registry::of(alloc, built_in(alloc)?)
+    }
+
+    /// The registry of these types.
+    fn of(alloc: Global, types: Vec<TypeInfo>) -> Result<Registry, Memory>
+        requires { IsLawfulRegistry types.items }
+        ensures { OnOk result (result ≡ Ok types.items) }
+    {
+        let names = names_of(alloc, types.as_slice())?;
+        Ok(Registry { types, names })
     }
 
     /// Gives a type the next number. The registry is as before after an error.
@@ -90,14 +101,25 @@ impl Registry {
             (λ ty. (refusal self.old info ≡ None) × (ty.0 ≡ length self.old))
             (IsDue (refusal self.old info)) }
     {
-        Err(RegistryFault::Memory)
+        if info.fields.len() > MOST_FIELDS {
+            return Err(RegistryFault::TooWide);
+        }
+        if self.find(&info.name).is_some() {
+            return Err(RegistryFault::Duplicate);
+        }
+        let number = self.types.len();
+        if number >= MOST_TYPES {
+            return Err(RegistryFault::TooManyTypes);
+        }
+        push(&mut self.types, &mut self.names, info)?;
+        Ok(TypeId(number as u16))
     }
 
     /// An equal registry.
     pub fn copy(&self, alloc: Global) -> Result<Registry, Memory>
         ensures { OnOk result (result ≡ Ok self.now) }
     {
-        Err(Memory)
+        Registry::of(alloc, copies(alloc, self.types.as_slice())?)
     }
 
     /// The number of the type with this name; `None` exactly where no type has it.
@@ -135,5 +157,99 @@ impl Registry {
         ensures most { result ≤ 256 }
     {
         self.types.len()
+    }
+}
+
+/// A list with a copy of each type.
+fn copies(alloc: Global, types: &[TypeInfo]) -> Result<Vec<TypeInfo>, Memory>
+    ensures { IfOk result (λ made. made.items ≡ types.now) }
+{
+    let mut made = Vec::with_capacity(alloc, types.len())?;
+    for info in types {
+        made.push(info.copy(alloc)?)?;
+    }
+    Ok(made)
+}
+
+/// The names of the types, in order. No two types have one name.
+fn names_of(alloc: Global, types: &[TypeInfo]) -> Result<IndexSet<Name>, Memory>
+    requires { are_distinct (type_names types.now) ≡ true }
+    ensures { IfOk result (λ names. names.keys ≡ type_names types.now) }
+{
+    let mut names = IndexSet::with_capacity(alloc, types.len())?;
+    for info in types {
+        names.insert(info.name)?;
+    }
+    Ok(names)
+}
+
+/// Puts a type and its name last. Both lists are as before after an error.
+fn push(
+    types: &mut Vec<TypeInfo>,
+    names: &mut IndexSet<Name>,
+    info: TypeInfo,
+) -> Result<(), Memory>
+    requires { list_any (same_name info.name) names.old.keys ≡ false }
+    ensures types { OnOk result (types.new.items ≡ types.old.items ++ info ∷ []) }
+    ensures names { OnOk result (names.new.keys ≡ names.old.keys ++ info.name ∷ []) }
+    ensures types_left { OnErr result (types.new.items ≡ types.old.items) }
+    ensures names_left { OnErr result (names.new.keys ≡ names.old.keys) }
+{
+    types.reserve(1)?;
+    names.insert(info.name)?;
+    types.push_reserved(info);
+    Ok(())
+}
+
+/// The types that each registry begins with.
+#[tactic(auto, unfolding(crate::specs::Registries::built_in_types))]
+fn built_in(alloc: Global) -> Result<Vec<TypeInfo>, Memory>
+    ensures { IfOk result (λ types. types.items ≡ built_in_types) }
+{
+    Ok(vec![in alloc;
+        built_in_tag(alloc, known_name(b"Disabled")),
+        built_in_tag(alloc, known_name(b"Prefab")),
+        scene_tag(alloc)?,
+    ]?)
+}
+
+/// A tag that is always enabled.
+fn built_in_tag(alloc: Global, name: Name) -> TypeInfo
+    ensures { result ≡ plain_tag name }
+{
+    TypeInfo {
+        name,
+        kind: Kind::Tag,
+        fields: Sequence::new(alloc),
+        enableable: false,
+    }
+}
+
+/// The shared type whose value is the number of the load that a row came with.
+fn scene_tag(alloc: Global) -> Result<TypeInfo, Memory>
+    ensures { OnOk result (result ≡ Ok scene_tag_type) }
+{
+    let fields = vec![in alloc;
+        FieldInfo {
+            name: known_name(b"scene"),
+            kind: FieldKind::I64,
+        },
+    ]?;
+    Ok(TypeInfo {
+        name: known_name(b"SceneTag"),
+        kind: Kind::Shared,
+        fields: Sequence::from_vec(fields),
+        enableable: false,
+    })
+}
+
+/// The name with these bytes, which are one.
+fn known_name(bytes: &[u8]) -> Name
+    requires { IsTrue (is_name bytes.now) }
+    ensures { result ≡ bytes.now }
+{
+    match Name::of(bytes) {
+        Some(name) => name,
+        None => unreachable!(),
     }
 }

@@ -1,5 +1,5 @@
 //! A type as it is declared: its name, its kind and its fields.
-ghost use Rattle.std.specs.Prelude.{◌≡◌, ◌<◌, ◌≤◌, length, map, OnOk, IfSome};
+ghost use Rattle.std.specs.Prelude.{◌≡◌, ◌<◌, ◌≤◌, length, position, OnOk, IfSome};
 ghost use Rattle.std.specs.List.{list_any};
 ghost use Rattle.ent_types.specs.Types.{same_name, has_shape, is_ref, are_distinct, field_names_of, is_lawful_type, field_named};
 
@@ -36,12 +36,17 @@ impl TypeInfo {
     /// none of them a ref; only plain types and tags may be enableable; and no two fields have one name.
     ///
     /// This project's own. The number of fields that a registry takes is tested by `Registry::add`.
+    #[tactic(auto, unfolding(crate::specs::Types::is_lawful_type))]
     pub fn is_lawful(&self) -> bool
         ensures { result ≡ is_lawful_type self.now }
     {
-        self.has_shape()
-            && (!self.enableable || self.kind.may_be_enableable())
-            && are_distinct(self.fields.as_slice())
+        if !self.has_shape() {
+            return false;
+        }
+        if self.enableable && !self.kind.may_be_enableable() {
+            return false;
+        }
+        are_distinct(self.fields.as_slice())
     }
 
     fn has_shape(&self) -> bool
@@ -79,12 +84,13 @@ impl TypeInfo {
     }
 
     /// The place of the field with this name, from 0; `None` exactly where no field has it.
+    #[tactic(auto, unfolding(crate::specs::Types::field_named))]
     pub fn field_named(&self, name: &Name) -> Option<u8>
         requires { length self.now.fields ≤ 64 }
         ensures place { result ≡ field_named self.now name.now }
         ensures within { IfSome result (λ at. at < length self.now.fields) }
     {
-        let at = self.fields.as_slice().iter().position(|f| f.name == *name)?;
+        let at = place_of(self.fields.as_slice(), name)?;
         Some(at as u8)
     }
 }
@@ -101,9 +107,17 @@ fn are_distinct(fields: &[FieldInfo]) -> bool
     true
 }
 
+/// The place of the first field with the name.
+fn place_of(fields: &[FieldInfo], name: &Name) -> Option<usize>
+    ensures place { result ≡ position (λ f. same_name name.now f.name) fields.now }
+    ensures within { IfSome result (λ at. at < length fields.now) }
+{
+    fields.iter().position(|f| *name == f.name)
+}
+
 /// Says whether a field has the name.
 fn has_name(fields: &[FieldInfo], name: &Name) -> bool
-    ensures { result ≡ list_any (same_name name.now) (field_names_of fields.now) }
+    ensures { result ≡ list_any (λ f. same_name name.now f.name) fields.now }
 {
-    fields.iter().any(|f| f.name == *name)
+    fields.iter().any(|f| *name == f.name)
 }
