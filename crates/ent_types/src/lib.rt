@@ -8,6 +8,8 @@ mod memory;
 mod name;
 mod point;
 mod registry;
+#[cfg(test)]
+mod registry_tests;
 mod sequence;
 mod steps;
 mod type_info;

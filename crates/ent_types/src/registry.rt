@@ -184,11 +184,7 @@ fn names_of(alloc: Global, types: &[TypeInfo]) -> Result<IndexSet<Name>, Memory>
 }
 
 /// Puts a type and its name last. Both lists are as before after an error.
-fn push(
-    types: &mut Vec<TypeInfo>,
-    names: &mut IndexSet<Name>,
-    info: TypeInfo,
-) -> Result<(), Memory>
+fn push(types: &mut Vec<TypeInfo>, names: &mut IndexSet<Name>, info: TypeInfo) -> Result<(), Memory>
     requires { list_any (same_name info.name) names.old.keys ≡ false }
     ensures types { OnOk result (types.new.items ≡ types.old.items ++ info ∷ []) }
     ensures names { OnOk result (names.new.keys ≡ names.old.keys ++ info.name ∷ []) }

@@ -1,7 +1,7 @@
 //! A type as it is declared: its name, its kind and its fields.
-ghost use Rattle.std.specs.Prelude.{◌≡◌, ◌<◌, ◌≤◌, length, position, OnOk, IfSome};
+ghost use Rattle.std.specs.Prelude.{◌≡◌, ◌<◌, ◌≤◌, length, position, sum_by, OnOk, IfSome};
 ghost use Rattle.std.specs.List.{list_any};
-ghost use Rattle.ent_types.specs.Types.{same_name, has_shape, is_ref, are_distinct, field_names_of, is_lawful_type, field_named};
+ghost use Rattle.ent_types.specs.Types.{same_name, has_shape, is_ref, are_distinct, field_names_of, is_lawful_type, field_named, field_size, column_size};
 
 use crate::{FieldKind, Kind, Memory, Name, Sequence};
 use std::alloc::Global;
@@ -83,6 +83,18 @@ impl TypeInfo {
         })
     }
 
+    /// The bytes that a row takes in the type's column: 0 for a tag or a shared type, which have none.
+    #[tactic(auto, unfolding(crate::specs::Types::column_size))]
+    pub fn column_size(&self) -> u32
+        requires { length self.now.fields ≤ 64 }
+        ensures { result ≡ column_size self.now }
+    {
+        if !self.kind.has_column() {
+            return 0;
+        }
+        total_size(self.fields.as_slice())
+    }
+
     /// The place of the field with this name, from 0; `None` exactly where no field has it.
     #[tactic(auto, unfolding(crate::specs::Types::field_named))]
     pub fn field_named(&self, name: &Name) -> Option<u8>
@@ -93,6 +105,18 @@ impl TypeInfo {
         let at = place_of(self.fields.as_slice(), name)?;
         Some(at as u8)
     }
+}
+
+/// The bytes that these fields take in a row.
+fn total_size(fields: &[FieldInfo]) -> u32
+    requires { length fields.now ≤ 64 }
+    ensures { result ≡ sum_by (λ f. field_size f.kind) fields.now }
+{
+    let mut total = 0;
+    for field in fields {
+        total += field.kind.size();
+    }
+    total
 }
 
 /// Says whether no two fields have one name.

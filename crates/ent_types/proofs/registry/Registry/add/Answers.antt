@@ -30,11 +30,10 @@ returns-in_err-push-clause-answer c =
 pub invariant_of-self-2 : goal.invariant_of-self-2
 invariant_of-self-2 c =
     rw
-    (c.in_ok-push.ensures.types, c.in_ok-push.ensures.names)
-    (
+    (c.in_ok-push.ensures.types, c.in_ok-push.ensures.names) (
       IsLawfulRegistry-push c.self.inside.types.items c.self.invariant.0 c.args.info c.requires (omega arith)
-        (is_new c.args.self.now c.args.info c.find.result c.find.ensures.place (omega arith) c.self.inside.types.items c.self.view_is c.if-is_some.ensures) (omega arith),
-      type_names-push c.self.inside.types.items c.self.inside.names.keys c.args.info c.self.invariant.1
+          (is_new c.args.self.now c.args.info c.find.result c.find.ensures.place (omega arith) c.self.inside.types.items c.self.view_is c.if-is_some.ensures) (omega arith),
+      type_names-push c.self.inside.types.items c.self.inside.names.keys c.args.info c.self.invariant.1,
     )
 
 pub returns-clause-answer : goal.returns-clause-answer
