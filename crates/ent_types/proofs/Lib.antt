@@ -1,3 +1,6 @@
+pub mod DistinctNames
+pub mod LawfulTypes
+pub mod Lookups
 pub mod Padding
 pub mod TypeBits
 pub mod TypeCounts
@@ -8,3 +11,6 @@ pub mod TypeSetLemmas
 pub mod TypeSetRelations
 pub mod TypeWalk
 pub mod VersionLemmas
+pub mod RefusalLemmas
+pub mod RegistryLemmas
+pub mod TypeNumbers
