@@ -12,8 +12,8 @@ mod registry;
 mod registry_tests;
 mod sequence;
 mod steps;
-mod type_set;
 mod type_info;
+mod type_set;
 mod value;
 mod version;
 
@@ -25,7 +25,7 @@ pub use point::Point;
 pub use registry::{MOST_FIELDS, MOST_TYPES, Registry, RegistryFault};
 pub use sequence::Sequence;
 pub use steps::Steps;
-pub use type_set::{TypeSet, Types};
 pub use type_info::{FieldInfo, TypeInfo};
+pub use type_set::{TypeSet, Types};
 pub use value::{Part, Parts, Value, Values};
 pub use version::SystemVersion;
