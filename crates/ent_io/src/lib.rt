@@ -1,0 +1,16 @@
+//! The outside world: files that are read whole, and a text that is written in pieces, each end with its cause.
+#![tactic(auto)]
+
+mod end;
+mod gate;
+mod reading;
+mod sink;
+mod store;
+mod writing;
+
+pub use end::{End, Status, TextEnd};
+pub use gate::{Gate, NoGate};
+pub use reading::{Missing, ReadEnd, read_whole};
+pub use sink::{Sink, SinkEnd};
+pub use store::{Store, StoreFault};
+pub use writing::{WriteEnd, write_whole};
