@@ -1,5 +1,5 @@
 -- What a call of a store answers, and what a whole read answers.
-use Rattle.std.specs.Prelude.{◌≡◌, ℕ, ◌<◌, ◌≤◌, nat_le, List, length, take, drop, if◌then◌else◌, Option, None, Some, IfSome, IsSomeAnd, Result, Ok, Err, Vec}
+use Rattle.std.specs.Prelude.{◌≡◌, ℕ, ◌<◌, ◌≤◌, nat_le, Bool, true, false, List, length, take, drop, if◌then◌else◌, Option, None, Some, IfSome, IsSomeAnd, Result, Ok, Err, Vec}
 use Rattle.std.specs.declared.alloc.Global.{Global}
 use Rattle.ent_io.specs.Count.{Rises}
 use Rattle.ent_io.specs.declared.store.StoreFault.{StoreFault}
@@ -33,6 +33,20 @@ StoreCauses (Err Memory) before now = now ≡ before
 abbrev pub whole_of : ℕ → Option (List ℕ) → Result (List ℕ) Missing
 whole_of limit None = Err NotThere
 whole_of limit (Some bytes) = if nat_le (length bytes) limit then Ok bytes else Err OverLong
+
+-- the bytes are a front of the file, where it is told and there
+abbrev pub IsFrontOf : Option (Option (List ℕ)) → List ℕ → Type 0
+IsFrontOf told bytes = (file : List ℕ) → told ≡ Some (Some file) → take (length bytes) file ≡ bytes
+
+-- One step of a whole read, from the bytes that it has. At true it has more of them and not too many; at false they
+-- are all.
+abbrev pub ReadsMore : Option (Option (List ℕ)) → ℕ → List ℕ → List ℕ → Result Bool ReadEnd → Type 0
+ReadsMore told limit old new (Ok true) = (length old < length new) × (length new ≤ limit) × IsFrontOf told new
+ReadsMore told limit old new (Ok false) = (new ≡ old) × IfSome told (λ file. file ≡ Some new)
+ReadsMore told limit old new (Err ReadAbsent) = IfSome told (λ file. file ≡ None)
+ReadsMore told limit old new (Err Fault) = Unit {0}
+ReadsMore told limit old new (Err TooLong) = IfSome told (λ file. IsSomeAnd file (λ bytes. limit < length bytes))
+ReadsMore told limit old new (Err ReadMemory) = Unit {0}
 
 -- what a whole read answers, by what is told of the name
 abbrev pub ReadsWhole : Option (Option (List ℕ)) → ℕ → Result (Vec ℕ Global) ReadEnd → Type 0

@@ -1,7 +1,7 @@
 // Reading a whole file.
-ghost use Rattle.std.specs.Prelude.{◌≡◌};
+ghost use Rattle.std.specs.Prelude.{◌≡◌, ◌<◌, ◌≤◌, length};
 ghost use Rattle.ent_io.specs.Files.{told_file};
-ghost use Rattle.ent_io.specs.Store.{ReadsWhole, ReadCauses};
+ghost use Rattle.ent_io.specs.Store.{IsFrontOf, ReadsMore, ReadsWhole, ReadCauses};
 ghost use Rattle.ent_io.specs.End.{missing_of};
 
 use crate::{End, Store, StoreFault};
@@ -72,25 +72,43 @@ pub fn read_whole<S: Store>(
     ensures files { S.files store.new ≡ S.files store.old }
     ensures causes { ReadCauses result (S.faults store.old) (S.faults store.new) }
 {
-    let size = if limit < CHUNK { limit + 1 } else { CHUNK };
-    let mut chunk = vec![in alloc; 0u8; size]?;
+    let mut chunk = vec![in alloc; 0u8; limit.min(CHUNK - 1) + 1]?;
     let mut bytes = Vec::new(alloc);
-    loop {
-        // One byte more than there is room for shows that the file is too long.
-        let room = limit - bytes.len();
-        let asked = if room < size { room + 1 } else { size };
-        let taken = match store.read(name, bytes.len() as u64, &mut chunk[..asked]) {
-            Ok(taken) => taken,
-            Err(StoreFault::Absent) => return Err(ReadEnd::Absent),
-            Err(StoreFault::Failed) => return Err(ReadEnd::Fault),
-            Err(StoreFault::Memory) => return Err(ReadEnd::Memory),
-        };
-        if taken == 0 {
-            return Ok(bytes);
-        }
-        if taken > room {
-            return Err(ReadEnd::TooLong);
-        }
-        bytes.extend_from_slice(&chunk[..taken])?;
+    while read_more(store, name, limit, &mut chunk, &mut bytes)? {}
+    Ok(bytes)
+}
+
+// Appends the next bytes of the file, as many as one call gives, and answers whether there were any. It asks for one
+// byte more than there is room for, which shows that the file is too long.
+fn read_more<S: Store>(
+    store: &mut S,
+    name: &str,
+    limit: usize,
+    chunk: &mut [u8],
+    bytes: &mut Vec<u8>,
+) -> Result<bool, ReadEnd>
+    requires space { 0 < length chunk.old }
+    requires within { length bytes.old.items ≤ limit }
+    requires front { IsFrontOf (told_file (S.files store.old) name.now) bytes.old.items }
+    ensures answer { ReadsMore (told_file (S.files store.old) name.now) limit bytes.old.items bytes.new.items result }
+    ensures files { S.files store.new ≡ S.files store.old }
+    ensures causes { ReadCauses result (S.faults store.old) (S.faults store.new) }
+{
+    let room = limit - bytes.len();
+    let asked = chunk.len().min(room.saturating_add(1));
+    let part = &mut chunk[..asked];
+    let taken = match store.read(name, bytes.len() as u64, part) {
+        Ok(taken) => taken,
+        Err(StoreFault::Absent) => return Err(ReadEnd::Absent),
+        Err(StoreFault::Failed) => return Err(ReadEnd::Fault),
+        Err(StoreFault::Memory) => return Err(ReadEnd::Memory),
+    };
+    if taken == 0 {
+        return Ok(false);
     }
+    if taken > room {
+        return Err(ReadEnd::TooLong);
+    }
+    bytes.extend_from_slice(&part[..taken])?;
+    Ok(true)
 }
