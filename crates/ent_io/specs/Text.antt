@@ -17,3 +17,9 @@ pub record AppendsPrefix (whole : List ℕ) (old new : Option (List ℕ)) : Type
 abbrev pub Writes : {T E : Type 0} → Result T E → List ℕ → Option (List ℕ) → Option (List ℕ) → Type 0
 Writes (Ok value) whole old new = new ≡ appended old whole
 Writes (Err error) whole old new = AppendsPrefix whole old new
+
+-- of the whole a front was appended, and this is left to write
+pub record Leaves (whole left : List ℕ) (old new : Option (List ℕ)) : Type 0 where
+  pub front : List ℕ
+  pub split : whole ≡ front ++ left
+  pub text : new ≡ appended old front

@@ -14,3 +14,6 @@ pub use reading::{Missing, ReadEnd, read_whole};
 pub use sink::{Sink, SinkEnd};
 pub use store::{Store, StoreFault};
 pub use writing::{WriteEnd, write_whole};
+
+#[cfg(test)]
+mod lines;

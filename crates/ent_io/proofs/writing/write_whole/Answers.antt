@@ -1,6 +1,5 @@
-use Rattle.std.proofs.Common.{◌≡◌, ◌∙◌, ap, take, arith}
+use Rattle.std.proofs.Common.{◌∙◌, arith}
 use Rattle.std.proofs.lemmas.List.{take_rest}
-use Rattle.ent_io.specs.Text.{appended}
 use Rattle.ent_io.proofs.Appends.{appends_more, prefix_of_piece}
 use Rattle.ent_io.proofs.writing.write_whole.Goals as goal
 
