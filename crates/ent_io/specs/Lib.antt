@@ -1,6 +1,7 @@
 pub mod Count
 pub mod End
 pub mod Files
+pub mod Memory
 pub mod Sink
 pub mod Store
 pub mod Text

@@ -1,8 +1,11 @@
 //! The outside world: files that are read whole, and a text that is written in pieces, each end with its cause.
 #![tactic(auto)]
 
+mod calls;
 mod end;
 mod gate;
+mod memory_sink;
+mod memory_store;
 mod reading;
 mod sink;
 mod store;
@@ -10,6 +13,8 @@ mod writing;
 
 pub use end::{End, Status, TextEnd};
 pub use gate::{Gate, NoGate};
+pub use memory_sink::MemorySink;
+pub use memory_store::MemoryStore;
 pub use reading::{Missing, ReadEnd, read_whole};
 pub use sink::{Sink, SinkEnd};
 pub use store::{Store, StoreFault};
