@@ -1,5 +1,6 @@
 -- Files and a text in memory, with calls that are to fail.
-use Rattle.std.specs.Prelude.{◌≡◌, ℕ, ◌+◌, ◌-◌, ◌^◌, ◌==◌, min, Bool, if◌then◌else◌, List, length, Option, None, Some, Result, Ok, Err}
+use Rattle.std.specs.Prelude.{◌≡◌, ℕ, ◌+◌, ◌-◌, ◌^◌, ◌==◌, min, Bool, if◌then◌else◌, List, length, Option, None, Some, Result, Ok, Err, Vec, String, string_bytes, map}
+use Rattle.std.specs.declared.alloc.Global.{Global}
 use Rattle.std.specs.List.{list_any}
 use Rattle.std.specs.Map.{lookup}
 use Rattle.std.specs.Str.{bytes_eq}
@@ -11,6 +12,10 @@ pub record CallCounts : Type 0 where
   pub failing : List ℕ
   pub made : ℕ
   pub faults : ℕ
+
+-- no call was made yet
+abbrev pub unused : List ℕ → CallCounts
+unused failing = record { failing = failing; made = 0; faults = 0 }
 
 -- The number of the next call, from 1. Every call past the last number has that number too.
 abbrev pub next_number : CallCounts → ℕ
@@ -37,6 +42,10 @@ pub record FilesInMemory : Type 0 where
   pub files : List (List ℕ × List ℕ)
   pub by_one : Bool
   pub calls : CallCounts
+
+-- files as they are handed in
+abbrev pub named_files : List (String Global × Vec ℕ Global) → List (List ℕ × List ℕ)
+named_files files = map (λ file. (string_bytes file.0, file.1.items)) files
 
 -- the first file of that name
 abbrev pub file_in : List (List ℕ × List ℕ) → List ℕ → Option (List ℕ)

@@ -22,12 +22,16 @@ ReadsFile told from buffer (Err Absent) = IfSome told (λ file. file ≡ None)
 ReadsFile told from buffer (Err Failed) = Unit {0}
 ReadsFile told from buffer (Err Memory) = Unit {0}
 
+-- the count of faults rises where the cause is Failed, and stays elsewhere
+abbrev pub FaultCause : StoreFault → ℕ → ℕ → Type 0
+FaultCause Absent before now = now ≡ before
+FaultCause Failed before now = Rises before now
+FaultCause Memory before now = now ≡ before
+
 -- the count of faults rises where the call failed, and stays elsewhere
 abbrev pub StoreCauses : {T : Type 0} → Result T StoreFault → ℕ → ℕ → Type 0
 StoreCauses (Ok value) before now = now ≡ before
-StoreCauses (Err Absent) before now = now ≡ before
-StoreCauses (Err Failed) before now = Rises before now
-StoreCauses (Err Memory) before now = now ≡ before
+StoreCauses (Err fault) before now = FaultCause fault before now
 
 -- what a whole read gives of a file under a limit: its bytes, or why it can't be had
 abbrev pub whole_of : ℕ → Option (List ℕ) → Result (List ℕ) Missing

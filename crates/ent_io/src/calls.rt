@@ -1,7 +1,7 @@
 // Calls that are to fail, by their number.
 ghost use Rattle.std.specs.Prelude.{◌≡◌, [], IsTrue};
 ghost use Rattle.ent_io.specs.Count.{Rises};
-ghost use Rattle.ent_io.specs.Memory.{CallCounts, next_fails, after_next, share_of};
+ghost use Rattle.ent_io.specs.Memory.{CallCounts, unused, next_fails, after_next, share_of};
 
 use std::marker::Model;
 
@@ -21,7 +21,7 @@ impl Model for Calls {
 
 impl Calls {
     pub(crate) fn new(failing: Vec<u64>) -> Self
-        ensures { result ≡ record { failing = failing.items; made = 0; faults = 0 } }
+        ensures { result ≡ unused failing.items }
     {
         Calls {
             failing,

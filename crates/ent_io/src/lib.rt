@@ -3,20 +3,24 @@
 
 mod calls;
 mod end;
+mod folder_store;
 mod gate;
 mod memory_sink;
 mod memory_store;
 mod reading;
 mod sink;
+mod std_sink;
 mod store;
 mod writing;
 
 pub use end::{End, Status, TextEnd};
+pub use folder_store::FolderStore;
 pub use gate::{Gate, NoGate};
 pub use memory_sink::MemorySink;
 pub use memory_store::MemoryStore;
 pub use reading::{Missing, ReadEnd, read_whole};
 pub use sink::{Sink, SinkEnd};
+pub use std_sink::StdSink;
 pub use store::{Store, StoreFault};
 pub use writing::{WriteEnd, write_whole};
 

@@ -1,7 +1,7 @@
 // A text in memory, for tests and for callers that want it at hand.
 ghost use Rattle.std.specs.Prelude.{◌≡◌, ◌↔◌, Some, IsTrue, false, true, [], length, IfOk};
 ghost use Rattle.ent_io.specs.Sink.{Takes, SinkCauses};
-ghost use Rattle.ent_io.specs.Memory.{TextInMemory, share_of, next_fails, after_next};
+ghost use Rattle.ent_io.specs.Memory.{TextInMemory, unused, share_of, next_fails, after_next};
 
 use crate::calls::{Calls, share};
 use crate::{Sink, SinkEnd};
@@ -26,7 +26,7 @@ impl Model for MemorySink {
 impl MemorySink {
     /// An empty text. The calls with the numbers in `failing`, from 1, will fail, whatever their piece is.
     pub fn new(alloc: Global, failing: Vec<u64>) -> MemorySink
-        ensures { result ≡ record { text = []; by_one = false; calls = record { failing = failing.items; made = 0; faults = 0 } } }
+        ensures { result ≡ record { text = []; by_one = false; calls = unused failing.items } }
     {
         MemorySink {
             text: Vec::new(alloc),
@@ -37,7 +37,7 @@ impl MemorySink {
 
     /// As `new`, but each call takes at most one byte.
     pub fn by_one(alloc: Global, failing: Vec<u64>) -> MemorySink
-        ensures { result ≡ record { text = []; by_one = true; calls = record { failing = failing.items; made = 0; faults = 0 } } }
+        ensures { result ≡ record { text = []; by_one = true; calls = unused failing.items } }
     {
         MemorySink {
             text: Vec::new(alloc),

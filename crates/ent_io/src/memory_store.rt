@@ -2,7 +2,7 @@
 ghost use Rattle.std.specs.Prelude.{◌≡◌, ◌≤◌, ◌-◌, map, min, length, take, drop, false, true, [], Some, IfOk, string_bytes};
 ghost use Rattle.std.specs.Option.{option_copied};
 ghost use Rattle.ent_io.specs.Store.{ReadsFile, StoreCauses};
-ghost use Rattle.ent_io.specs.Memory.{FilesInMemory, file_in, share_of, next_answer, after_next};
+ghost use Rattle.ent_io.specs.Memory.{FilesInMemory, named_files, unused, file_in, share_of, next_answer, after_next};
 
 use crate::calls::{Calls, share};
 use crate::{Store, StoreFault};
@@ -20,13 +20,13 @@ pub struct MemoryStore {
 impl Model for MemoryStore {
     ghost Value = { FilesInMemory };
 
-    ghost view = { λ s. record { files = map (λ file. (string_bytes file.0, file.1.items)) s.files.items; by_one = s.by_one; calls = s.calls } };
+    ghost view = { λ s. record { files = named_files s.files.items; by_one = s.by_one; calls = s.calls } };
 }
 
 impl MemoryStore {
     /// A store of these files. The calls with the numbers in `failing`, from 1, will fail, whatever they ask for.
     pub fn new(files: Vec<(String, Vec<u8>)>, failing: Vec<u64>) -> MemoryStore
-        ensures { result ≡ record { files = map (λ file. (string_bytes file.0, file.1.items)) files.items; by_one = false; calls = record { failing = failing.items; made = 0; faults = 0 } } }
+        ensures { result ≡ record { files = named_files files.items; by_one = false; calls = unused failing.items } }
     {
         MemoryStore {
             files,
@@ -37,7 +37,7 @@ impl MemoryStore {
 
     /// As `new`, but each call gives at most one byte.
     pub fn by_one(files: Vec<(String, Vec<u8>)>, failing: Vec<u64>) -> MemoryStore
-        ensures { result ≡ record { files = map (λ file. (string_bytes file.0, file.1.items)) files.items; by_one = true; calls = record { failing = failing.items; made = 0; faults = 0 } } }
+        ensures { result ≡ record { files = named_files files.items; by_one = true; calls = unused failing.items } }
     {
         MemoryStore {
             files,
@@ -71,7 +71,7 @@ impl Store for MemoryStore {
 
 // The first file of that name.
 fn find_file<'a>(files: &'a [(String, Vec<u8>)], name: &str) -> Option<&'a [u8]>
-    ensures { option_copied result ≡ file_in (map (λ file. (string_bytes file.0, file.1.items)) files.now) name.now }
+    ensures { option_copied result ≡ file_in (named_files files.now) name.now }
 {
     for (key, bytes) in files {
         if key.as_str() == name {
