@@ -9,6 +9,7 @@ use std::alloc::Global;
 use std::fs::{File, Files};
 use std::io;
 use std::io::{ErrorKind, Read, Seek, SeekFrom};
+use std::marker::Model;
 
 /// The files of the current folder. It tells none of them. It keeps the file that it last read open, so that a file
 /// is read chunk by chunk in one pass. A file or folder that is missing is `Absent`; one that can't be read, as a
@@ -29,9 +30,19 @@ struct Opened<F: Read + Seek + Drop> {
     at: u64,
 }
 
+// Contracts see its count of faults.
+impl<'a, R: Files + Drop> Model for FolderStore<'a, R> {
+    ghost use Rattle.std.specs.Prelude.{ℕ};
+
+    ghost Value = { ℕ };
+
+    ghost view = { λ s. s.faults };
+}
+
 impl<'a, R: Files + Drop> FolderStore<'a, R> {
+    /// A store over the system's files, which has not failed yet.
     pub fn new(rt: &'a R, alloc: Global) -> Self
-        ensures { result.faults ≡ 0 }
+        ensures { result ≡ 0 }
     {
         FolderStore {
             rt,
@@ -44,7 +55,7 @@ impl<'a, R: Files + Drop> FolderStore<'a, R> {
     // After an error no file is open, so the next call opens it anew.
     fn read_open(&mut self, name: &str, from: u64, buf: &mut [u8]) -> io::Result<usize>
         ensures within { ReadsAtMost result buf.new }
-        ensures faults { self.new.faults ≡ self.old.faults }
+        ensures faults { self.new ≡ self.old }
     {
         let kept = self
             .opened
@@ -80,7 +91,7 @@ impl<F: Read + Seek + Drop> Opened<F> {
 impl<'a, R: Files + Drop> Store for FolderStore<'a, R> {
     ghost files = { λ _. None };
 
-    ghost faults = { λ s. s.faults };
+    ghost faults = { λ s. s };
 
     fn read(&mut self, name: &str, from: u64, buf: &mut [u8]) -> Result<usize, StoreFault> {
         match self.read_open(name, from, buf) {

@@ -26,3 +26,5 @@ pub use writing::{WriteEnd, write_whole};
 
 #[cfg(test)]
 mod lines;
+#[cfg(test)]
+mod tests;

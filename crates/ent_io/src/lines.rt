@@ -9,7 +9,7 @@ use crate::{End, Sink, Status, Store, TextEnd, read_whole, write_whole};
 use std::alloc::Global;
 
 // One line after another.
-fn write_lines<W: Sink>(out: &mut W, lines: &[Vec<u8>]) -> Result<(), TextEnd>
+pub(crate) fn write_lines<W: Sink>(out: &mut W, lines: &[Vec<u8>]) -> Result<(), TextEnd>
     ensures text { Writes result (flat_map (λ line. line.items) lines.now) (W.text out.old) (W.text out.new) }
     ensures causes { TextCauses result (W.faults out.old) (W.faults out.new) }
 {
@@ -20,7 +20,7 @@ fn write_lines<W: Sink>(out: &mut W, lines: &[Vec<u8>]) -> Result<(), TextEnd>
 }
 
 // A head, lines and a foot, with a store beside them.
-fn write_page<W: Sink>(
+pub(crate) fn write_page<W: Sink>(
     out: &mut W,
     head: &[u8],
     lines: &[Vec<u8>],

@@ -6,6 +6,7 @@ ghost use Rattle.ent_io.specs.Sink.{SinkCauses};
 use crate::{Sink, SinkEnd};
 use std::alloc::Global;
 use std::io::{BufWriter, Write};
+use std::marker::Model;
 
 // How many bytes are gathered before they are handed to the system.
 const BUFFER: usize = 65536;
@@ -18,10 +19,19 @@ pub struct StdSink<W: Write + Drop> {
     faults: u64,
 }
 
+// Contracts see its count of faults.
+impl<W: Write + Drop> Model for StdSink<W> {
+    ghost use Rattle.std.specs.Prelude.{ℕ};
+
+    ghost Value = { ℕ };
+
+    ghost view = { λ s. s.faults };
+}
+
 impl<W: Write + Drop> StdSink<W> {
     /// Only want of memory keeps it from being made.
     pub fn new(alloc: Global, out: W) -> Result<Self, SinkEnd>
-        ensures faults { IfOk result (λ sink. sink.faults ≡ 0) }
+        ensures faults { IfOk result (λ sink. sink ≡ 0) }
         ensures memory { IfErr result (λ cause. cause ≡ SinkEnd.Memory) }
     {
         match BufWriter::with_capacity(alloc, BUFFER, out) {
@@ -32,7 +42,7 @@ impl<W: Write + Drop> StdSink<W> {
 
     /// Writes what is left in the buffer. The only error is `Failed`.
     pub fn finish(&mut self) -> Result<(), SinkEnd>
-        ensures causes { SinkCauses result self.old.faults self.new.faults }
+        ensures causes { SinkCauses result self.old self.new }
         ensures failed { IfErr result (λ cause. cause ≡ SinkEnd.Failed) }
     {
         match self.out.flush() {
@@ -44,7 +54,7 @@ impl<W: Write + Drop> StdSink<W> {
     // Counts a failure.
     fn fail(&mut self) -> SinkEnd
         ensures cause { result ≡ SinkEnd.Failed }
-        ensures faults { Rises self.old.faults self.new.faults }
+        ensures faults { Rises self.old self.new }
     {
         self.faults = self.faults.saturating_add(1);
         SinkEnd::Failed
@@ -54,7 +64,7 @@ impl<W: Write + Drop> StdSink<W> {
 impl<W: Write + Drop> Sink for StdSink<W> {
     ghost text = { λ _. None };
 
-    ghost faults = { λ s. s.faults };
+    ghost faults = { λ s. s };
 
     fn write(&mut self, piece: &[u8]) -> Result<usize, SinkEnd> {
         match self.out.write(piece) {
