@@ -7,8 +7,10 @@ use Rattle.ent_io.specs.declared.sink.SinkEnd.TheVariants.{Failed, Memory as Sin
 use Rattle.ent_io.specs.declared.end.TextEnd.{TextEnd}
 use Rattle.ent_io.specs.declared.end.TextEnd.TheVariants.{WriteFault as TextFault, Memory as TextMemory}
 use Rattle.ent_io.specs.declared.end.End.{End}
+use Rattle.ent_io.specs.declared.end.End.TheVariants.{ReadFault, WriteFault, Memory}
 use Rattle.ent_io.specs.Sink.{SinkCause}
-use Rattle.ent_io.specs.End.{TextCause, Cause, text_end_of, end_of}
+use Rattle.ent_io.specs.End.{TextCause, Cause, text_end_of, end_of, status_of}
+use Rattle.ent_io.specs.Status.{StatusWrites, StatusCauses}
 use Rattle.ent_io.specs.Text.{AppendsPrefix, Writes}
 
 -- whichever error it is, a prefix was appended
@@ -29,3 +31,15 @@ cause_of_text TextMemory sb sn kb kn same cause = (same, cause)
 -- a cause since a moment at which both counts were as before
 pub cause_since : (end : End) (sb sm sn kb km kn : ℕ) → sm ≡ sb → km ≡ kb → Cause end sm sn km kn → Cause end sb sn kb kn
 cause_since end sb sm sn kb km kn store sink cause = subst (λ n. Cause end n sn kb kn) store (subst (λ n. Cause end sm sn n kn) sink cause)
+
+-- the status of an end: a prefix was appended
+pub status_writes : (end : End) (whole : List ℕ) (old new : Option (List ℕ)) → AppendsPrefix whole old new → StatusWrites (status_of end) whole old new
+status_writes ReadFault whole old new prefix = prefix
+status_writes WriteFault whole old new prefix = prefix
+status_writes Memory whole old new prefix = prefix
+
+-- the status of an end has its causes
+pub status_causes : (end : End) (sb sn kb kn : ℕ) → Cause end sb sn kb kn → StatusCauses (status_of end) sb sn kb kn
+status_causes ReadFault sb sn kb kn cause = cause
+status_causes WriteFault sb sn kb kn cause = cause
+status_causes Memory sb sn kb kn cause = cause

@@ -73,18 +73,6 @@ fn a_file_is_read_whole(rt: HostRuntime) -> Result<(), Fail> {
 }
 
 #[test]
-fn a_long_file_is_read_in_chunks(rt: HostRuntime) -> Result<(), Fail> {
-    let alloc = rt.alloc();
-    let bytes = vec![in alloc; 7u8; 200_000]?;
-    let mut files = Vec::new(alloc);
-    files.push((String::from_str(alloc, "long")?, bytes.clone()?))?;
-    let mut store = MemoryStore::new(files, Vec::new(alloc));
-    let read = read_whole(alloc, &mut store, "long", 200_000)?;
-    assert!(rt; read.as_slice() == bytes.as_slice());
-    Ok(())
-}
-
-#[test]
 fn a_piece_is_written_whole(rt: HostRuntime) -> Result<(), Fail> {
     let alloc = rt.alloc();
     let stop = |written: usize| Err(WriteEnd {
