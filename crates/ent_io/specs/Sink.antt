@@ -31,3 +31,8 @@ pub record StopsAt (end : WriteEnd) (piece : List ℕ) (old new : Option (List �
 abbrev pub WriteCauses : {T : Type 0} → Result T WriteEnd → ℕ → ℕ → Type 0
 WriteCauses (Ok value) before now = now ≡ before
 WriteCauses (Err end) before now = SinkCause end.cause before now
+
+-- a sink over the system: how often it failed, and what it has gathered and not yet handed on
+pub record Gathers : Type 0 where
+  pub faults : ℕ
+  pub gathered : List ℕ

@@ -1,5 +1,5 @@
 // Standard output. No clause says what a terminal shows: this is a trusted edge, a few lines long.
-ghost use Rattle.std.specs.Prelude.{◌≡◌, None, IfOk, IfErr};
+ghost use Rattle.std.specs.Prelude.{◌≡◌, [], None, IfOk, IfErr, OnOk};
 ghost use Rattle.ent_io.specs.Count.{Rises};
 ghost use Rattle.ent_io.specs.Sink.{SinkCauses};
 
@@ -19,19 +19,20 @@ pub struct StdSink<W: Write + Drop> {
     faults: u64,
 }
 
-// Contracts see its count of faults.
+// Contracts see its count of faults, and what it has gathered and not yet handed on.
 impl<W: Write + Drop> Model for StdSink<W> {
-    ghost use Rattle.std.specs.Prelude.{ℕ};
+    ghost use Rattle.std.specs.Io.Buffered.{writer_buffer};
+    ghost use Rattle.ent_io.specs.Sink.{Gathers};
 
-    ghost Value = { ℕ };
+    ghost Value = { Gathers };
 
-    ghost view = { λ s. s.faults };
+    ghost view = { λ s. record { faults = s.faults; gathered = writer_buffer s.out } };
 }
 
 impl<W: Write + Drop> StdSink<W> {
     /// Only want of memory keeps it from being made.
     pub fn new(alloc: Global, out: W) -> Result<Self, SinkEnd>
-        ensures faults { IfOk result (λ sink. sink ≡ 0) }
+        ensures made { IfOk result (λ sink. sink ≡ record { faults = 0; gathered = [] }) }
         ensures memory { IfErr result (λ cause. cause ≡ SinkEnd.Memory) }
     {
         match BufWriter::with_capacity(alloc, BUFFER, out) {
@@ -42,7 +43,8 @@ impl<W: Write + Drop> StdSink<W> {
 
     /// Writes what is left in the buffer. The only error is `Failed`.
     pub fn finish(&mut self) -> Result<(), SinkEnd>
-        ensures causes { SinkCauses result self.old self.new }
+        ensures causes { SinkCauses result self.old.faults self.new.faults }
+        ensures handed_on { OnOk result (self.new.gathered ≡ []) }
         ensures failed { IfErr result (λ cause. cause ≡ SinkEnd.Failed) }
     {
         match self.out.flush() {
@@ -54,7 +56,7 @@ impl<W: Write + Drop> StdSink<W> {
     // Counts a failure.
     fn fail(&mut self) -> SinkEnd
         ensures cause { result ≡ SinkEnd.Failed }
-        ensures faults { Rises self.old self.new }
+        ensures faults { Rises self.old.faults self.new.faults }
     {
         self.faults = self.faults.saturating_add(1);
         SinkEnd::Failed
@@ -64,7 +66,7 @@ impl<W: Write + Drop> StdSink<W> {
 impl<W: Write + Drop> Sink for StdSink<W> {
     ghost text = { λ _. None };
 
-    ghost faults = { λ s. s };
+    ghost faults = { λ s. s.faults };
 
     fn write(&mut self, piece: &[u8]) -> Result<usize, SinkEnd> {
         match self.out.write(piece) {
