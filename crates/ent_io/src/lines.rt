@@ -20,7 +20,7 @@ pub(crate) fn write_lines<W: Sink>(out: &mut W, lines: &[Vec<u8>]) -> Result<(),
     Ok(())
 }
 
-// A head, lines and a foot, with a store beside them.
+// A head, lines and a foot.
 pub(crate) fn write_page<W: Sink>(
     out: &mut W,
     head: &[u8],
