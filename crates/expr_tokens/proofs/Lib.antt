@@ -1,0 +1,4 @@
+mod Fronts
+mod Signs
+mod Texts
+mod Unique

@@ -1,0 +1,287 @@
+//! From bytes to tokens.
+ghost use Rattle.std.specs.Prelude.{List, ◌≡◌, ◌≢◌, ℕ, ◌+◌, ◌*◌, ◌^◌, ◌<◌, ◌≤◌, false, true, length, slice_index, min, map, All, IfOk, MatchOption};
+ghost use Rattle.std.specs.Char.{is_ascii_digit};
+ghost use Rattle.expr_tokens.specs.Tokens.{Placed, AreTokens, Spans, number_value, IsLongest, BeginsNoSign, IsLongestSign, NoPair};
+ghost use Rattle.ent_types.specs.Names.{is_name_start};
+ghost use Rattle.expr_tokens.specs.Seen.{seen, token_seen, belongs};
+
+use crate::sign::{pair, single};
+use crate::{Lexeme, Sign, Token};
+use ent_types::Memory;
+use std::alloc::Global;
+
+/// What a number that is too large stands as.
+const TOO_LARGE: u64 = 1 << 63;
+
+/// A token of any number of bytes goes on with bytes of one kind.
+#[derive(Clone, Copy, Debug, PartialEq, Eq)]
+enum Kind {
+    Word,
+    Digits,
+}
+
+impl Kind {
+    fn holds(self, byte: u8) -> bool
+        ensures { result ≡ belongs self byte }
+    {
+        match self {
+            Kind::Word => byte.is_ascii_alphanumeric() || byte == b'_',
+            Kind::Digits => byte.is_ascii_digit(),
+        }
+    }
+}
+
+/// Says whether a byte may begin a name.
+fn is_start(byte: u8) -> bool
+    ensures { result ≡ is_name_start byte }
+{
+    byte.is_ascii_alphabetic() || byte == b'_'
+}
+
+/// How many bytes at the front are of one kind.
+fn run_len(bytes: &[u8], kind: Kind) -> usize
+    ensures within { result ≤ length bytes.now }
+    ensures same { (k : ℕ) → k < result → belongs kind (slice_index bytes.now k) ≡ true }
+    ensures stops { result < length bytes.now → belongs kind (slice_index bytes.now result) ≡ false }
+{
+    let mut n = 0;
+    while n < bytes.len() && kind.holds(bytes[n]) {
+        n += 1;
+    }
+    n
+}
+
+/// The number with one digit more.
+fn with_digit(value: u64, digit: u8) -> u64
+    requires { digit < 10 }
+    ensures { result ≡ min (10 * value + digit) (2 ^ 63) }
+{
+    if value > TOO_LARGE / 10 {
+        return TOO_LARGE;
+    }
+    (10 * value + u64::from(digit)).min(TOO_LARGE)
+}
+
+/// The number that the digits spell, or `TOO_LARGE`.
+fn number_value(digits: &[u8]) -> u64
+    requires { All (λ b. is_ascii_digit b ≡ true) digits.now }
+    ensures { result ≡ number_value digits.now }
+{
+    let mut value = 0;
+    for digit in digits {
+        value = with_digit(value, *digit - b'0');
+    }
+    value
+}
+
+/// The sign that the first two bytes spell.
+fn pair_at(bytes: &[u8]) -> Option<Sign>
+    ensures { MatchOption result (NoPair bytes.now) (λ s. IsLongestSign s 2 bytes.now) }
+{
+    if bytes.len() < 2 {
+        return None;
+    }
+    pair(bytes[0], bytes[1])
+}
+
+/// The sign at the front, and how many bytes it takes.
+fn sign_at(bytes: &[u8]) -> Option<(Sign, usize)>
+    requires { 0 < length bytes.now }
+    ensures { MatchOption result (BeginsNoSign bytes.now) (λ found. IsLongestSign found.0 found.1 bytes.now) }
+{
+    if let Some(sign) = pair_at(bytes) {
+        return Some((sign, 2));
+    }
+    match single(bytes[0]) {
+        Some(sign) => Some((sign, 1)),
+        None => None,
+    }
+}
+
+/// The token at the front, and how many bytes it takes.
+fn token_at(bytes: &[u8]) -> (Token<'_>, usize)
+    requires some { 0 < length bytes.now }
+    requires no_space { slice_index bytes.now 0 ≢ 32 }
+    ensures { Spans (token_seen result.0) result.1 bytes.now }
+{
+    let first = bytes[0];
+    if is_start(first) {
+        let n = run_len(bytes, Kind::Word);
+        return (Token::Word(&bytes[..n]), n);
+    }
+    if first.is_ascii_digit() {
+        let n = run_len(bytes, Kind::Digits);
+        return (Token::Number(number_value(&bytes[..n])), n);
+    }
+    match sign_at(bytes) {
+        Some((sign, n)) => (Token::Sign(sign), n),
+        None => (Token::Bad, bytes.len()),
+    }
+}
+
+/// The tokens of a text, in order. After a place where no token begins nothing more is read.
+pub fn tokens(alloc: Global, text: &[u8]) -> Result<Vec<Lexeme<'_>>, Memory>
+    requires { length text.now < 2 ^ 32 }
+    ensures { IfOk result (λ v. AreTokens 0 text.now (map seen v.items)) }
+{
+    let mut out = Vec::new(alloc);
+    let mut at = 0;
+    while at < text.len() {
+        let rest = &text[at..];
+        if rest[0] == b' ' {
+            at += 1;
+        } else {
+            let (token, len) = token_at(rest);
+            out.push(Lexeme {
+                token,
+                at: at as u32,
+            })?;
+            at += len;
+        }
+    }
+    Ok(out)
+}
+
+/// A text has one list of tokens: the law that callers cite.
+pub fn one_list()
+    ensures { (text : List ℕ) (ps qs : List Placed) → AreTokens 0 text ps → AreTokens 0 text qs → ps ≡ qs }
+{}
+
+#[cfg(test)]
+mod tests {
+    use super::*;
+    use std::test::Fail;
+
+    /// A lexeme as a test writes it down.
+    #[derive(Clone, Copy, PartialEq, Eq, Debug)]
+    enum Is {
+        Word(u32, usize),
+        Number(u32, u64),
+        Sign(u32, Sign),
+        Bad(u32),
+    }
+
+    fn shown(lexeme: Lexeme<'_>) -> Is {
+        match lexeme.token {
+            Token::Word(bytes) => Is::Word(lexeme.at, bytes.len()),
+            Token::Number(n) => Is::Number(lexeme.at, n),
+            Token::Sign(s) => Is::Sign(lexeme.at, s),
+            Token::Bad => Is::Bad(lexeme.at),
+        }
+    }
+
+    fn reads(alloc: Global, text: &str, wanted: &[Is]) -> Result<bool, Memory> {
+        if text.len() > 1024 {
+            return Ok(false);
+        }
+        let found = tokens(alloc, text.as_bytes())?;
+        let mut same = found.len() == wanted.len();
+        for (lexeme, want) in found.iter().zip(wanted.iter()) {
+            if shown(*lexeme) != *want {
+                same = false;
+            }
+        }
+        Ok(same)
+    }
+
+    #[test]
+    fn longest_tokens(rt: HostRuntime) -> Result<(), Fail> {
+        assert!(rt; reads(rt.alloc(), "", &[])?);
+        assert!(rt; reads(rt.alloc(), "   ", &[])?);
+        assert!(rt; reads(rt.alloc(), "ab_1 7", &[Is::Word(0, 4), Is::Number(5, 7)])?);
+        assert!(rt; reads(rt.alloc(), "7ab", &[Is::Number(0, 7), Is::Word(1, 2)])?);
+        assert!(rt;
+            reads(
+                rt.alloc(),
+                "===",
+                &[Is::Sign(0, Sign::Equal), Is::Sign(2, Sign::Assign)]
+            )?
+        );
+        assert!(rt;
+            reads(
+                rt.alloc(),
+                "!= !",
+                &[Is::Sign(0, Sign::NotEqual), Is::Sign(3, Sign::Not)]
+            )?
+        );
+        assert!(rt;
+            reads(
+                rt.alloc(),
+                "<=>=<>",
+                &[
+                    Is::Sign(0, Sign::LessEqual),
+                    Is::Sign(2, Sign::GreaterEqual),
+                    Is::Sign(4, Sign::Less),
+                    Is::Sign(5, Sign::Greater)
+                ]
+            )?
+        );
+        assert!(rt;
+            reads(
+                rt.alloc(),
+                "&&||",
+                &[Is::Sign(0, Sign::And), Is::Sign(2, Sign::Or)]
+            )?
+        );
+        assert!(rt;
+            reads(
+                rt.alloc(),
+                "(),.:+-*/%",
+                &[
+                    Is::Sign(0, Sign::Open),
+                    Is::Sign(1, Sign::Close),
+                    Is::Sign(2, Sign::Comma),
+                    Is::Sign(3, Sign::Dot),
+                    Is::Sign(4, Sign::Colon),
+                    Is::Sign(5, Sign::Plus),
+                    Is::Sign(6, Sign::Minus),
+                    Is::Sign(7, Sign::Times),
+                    Is::Sign(8, Sign::Divide),
+                    Is::Sign(9, Sign::Rest)
+                ]
+            )?
+        );
+        Ok(())
+    }
+
+    #[test]
+    fn numbers_and_bad_bytes(rt: HostRuntime) -> Result<(), Fail> {
+        assert!(rt;
+            reads(
+                rt.alloc(),
+                "9223372036854775807",
+                &[Is::Number(0, 9_223_372_036_854_775_807)]
+            )?
+        );
+        assert!(rt;
+            reads(
+                rt.alloc(),
+                "9223372036854775808",
+                &[Is::Number(0, 9_223_372_036_854_775_808)]
+            )?
+        );
+        assert!(rt;
+            reads(
+                rt.alloc(),
+                "99999999999999999999999",
+                &[Is::Number(0, 9_223_372_036_854_775_808)]
+            )?
+        );
+        assert!(rt; reads(rt.alloc(), "0012", &[Is::Number(0, 12)])?);
+        assert!(rt; reads(rt.alloc(), "a & b", &[Is::Word(0, 1), Is::Bad(2)])?);
+        assert!(rt; reads(rt.alloc(), "a\tb", &[Is::Word(0, 1), Is::Bad(1)])?);
+        assert!(rt;
+            reads(
+                rt.alloc(),
+                "1.5$",
+                &[
+                    Is::Number(0, 1),
+                    Is::Sign(1, Sign::Dot),
+                    Is::Number(2, 5),
+                    Is::Bad(3)
+                ]
+            )?
+        );
+        Ok(())
+    }
+}
