@@ -1,5 +1,5 @@
 -- Lists that are read by `slice_get`, after a write, and the items after a row.
-use Rattle.std.proofs.Common.{◌≡◌, ◌≢◌, ℕ, zero, suc, ◌+◌, ◌<◌, ◌≤◌, ◌⊎◌, inl, inr, ⊎_elim, List, [], ◌∷◌, ◌++◌, length, map, set, get_or, replicate, slice_get, take, drop, drop-cons, take-append-drop, Option, None, Some, All, Result, Ok, Err, OnOk, OnErr, refl, sym, ◌∙◌, ap, subst, add-one, zero-add, arith}
+use Rattle.std.proofs.Common.{◌≡◌, ◌≢◌, ℕ, zero, suc, ◌+◌, ◌<◌, ◌⊎◌, inl, inr, ⊎_elim, List, [], ◌∷◌, ◌++◌, length, map, set, get_or, replicate, slice_get, take, drop, drop-cons, take-append-drop, Option, None, Some, All, Result, Ok, Err, OnOk, OnErr, refl, sym, ◌∙◌, ap, subst, add-one, zero-add, arith}
 use Rattle.std.proofs.lemmas.Option.{get_or_from_slice_get, slice_get_within, slice_get-get_or}
 use Rattle.std.specs.Option.{option_map, option_map_or}
 use Rattle.phase_core.specs.Work.{Work, after_row, after_rows, run_to_end}

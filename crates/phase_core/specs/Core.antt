@@ -1,5 +1,5 @@
 -- The phase machine as plain data: its steps, which of them are lawful, and what holds however they are ordered.
-use Rattle.std.specs.Prelude.{◌≡◌, ◌≢◌, ℕ, zero, suc, ◌+◌, ◌<◌, ◌≤◌, ◌⊎◌, Bool, true, false, List, [], ◌∷◌, ◌++◌, length, map, replicate, slice_get, slice_set, nat_lt, ◌==◌, if◌then◌else◌, Option, None, Some, All}
+use Rattle.std.specs.Prelude.{◌≡◌, ℕ, zero, suc, ◌+◌, ◌<◌, ◌≤◌, ◌⊎◌, Bool, true, false, List, [], ◌∷◌, ◌++◌, length, map, replicate, slice_get, slice_set, nat_lt, ◌==◌, if◌then◌else◌, Option, None, Some, All}
 use Rattle.std.specs.Option.{option_map, option_map_or}
 use Rattle.phase_core.specs.Work.{Work, after_row, after_rows, run_to_end}
 use Rattle.phase_core.specs.declared.step.StepOf.{StepOf}
@@ -97,6 +97,14 @@ module _ {C : Type 0} where
   abbrev pub AllLawful : Core C → List StepOf → Type 0
   AllLawful c [] = Unit {0}
   AllLawful c (x ∷ xs) = (is_lawful c x ≡ true) × AllLawful (after c x) xs
+
+  -- a lawful step was taken
+  abbrev pub Takes : Core C → StepOf → Core C → Type 0
+  Takes c x d = (is_lawful c x ≡ true) × (d ≡ after c x)
+
+  -- the steps were taken one after the other, each lawful where it was taken
+  abbrev pub TakesAll : Core C → List StepOf → Core C → Type 0
+  TakesAll c xs d = AllLawful c xs × (d ≡ after_all c xs)
 
   -- when each fault comes: the step isn't lawful, or it is a lawful row, which found no memory
   abbrev pub FaultComes : Core C → StepOf → StepFault → Type 0

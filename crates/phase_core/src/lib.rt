@@ -9,10 +9,8 @@
 mod item;
 mod machine;
 mod step;
-#[cfg(test)]
-mod tests;
 
+pub use ent_types::Memory;
 pub use item::ItemWork;
 pub use machine::Machine;
-pub use ent_types::Memory;
 pub use step::{StepFault, StepOf, WorkerState};

@@ -1,16 +1,22 @@
 // The machine.
-ghost use Rattle.std.specs.Prelude.{◌≡◌, ◌<◌, true, false, All, map, slice_get, IfOk, IfErr, OnOk, OnErr};
-ghost use Rattle.phase_core.specs.Core.{opening, is_lawful, after, after_all, AllLawful, FaultComes, StopsAt, IsSound};
+ghost use Rattle.std.specs.Prelude.{◌≡◌, ◌<◌, All, map, slice_get, IfOk, IfErr, OnOk, OnErr};
+ghost use Rattle.phase_core.specs.Core.{opening, Takes, TakesAll, FaultComes, StopsAt, IsSound};
 ghost use Rattle.phase_core.specs.Phase.{core_of};
 
 use crate::item::{ItemWork, rows_at, run_row_at};
-use ent_types::Memory;
 use crate::step::{StepFault, StepOf, WorkerState};
+use ent_types::Memory;
 use std::alloc::Global;
 use std::marker::Model;
 use std::snapshot::Snapshot;
 
+#[cfg(test)]
+mod tests;
+
 /// The items of a phase, the number that is drawn next, and where each worker stands.
+///
+/// This project's own. Its steps are the events of a phase that many threads run: a draw, one row of a drawn item, and
+/// the putting down of a finished item.
 #[derive(Drop)]
 pub struct Machine<I: ItemWork> {
     opened: Snapshot<Vec<I>>,
@@ -52,7 +58,7 @@ impl<I: ItemWork + Drop> Machine<I> {
 impl<I: ItemWork> Machine<I> {
     /// Takes one step, if it is lawful. After a fault all is as before.
     pub fn apply(&mut self, step: StepOf) -> Result<(), StepFault>
-        ensures ok { OnOk result ((is_lawful (core_of I.work self.old) step ≡ true) × (core_of I.work self.new ≡ after (core_of I.work self.old) step)) }
+        ensures ok { OnOk result (Takes (core_of I.work self.old) step (core_of I.work self.new)) }
         ensures fault { IfErr result (λ e. FaultComes (core_of I.work self.old) step e) }
         ensures unchanged { OnErr result (core_of I.work self.new ≡ core_of I.work self.old) }
         ensures sound { IsSound (core_of I.work self.new) }
@@ -66,10 +72,11 @@ impl<I: ItemWork> Machine<I> {
 
     /// Takes the steps in their order, up to the first fault. The steps before it hold.
     pub fn run_list(&mut self, steps: &[StepOf]) -> Result<(), StepFault>
-        ensures ok { OnOk result (AllLawful (core_of I.work self.old) steps.now × (core_of I.work self.new ≡ after_all (core_of I.work self.old) steps.now)) }
+        ensures ok { OnOk result (TakesAll (core_of I.work self.old) steps.now (core_of I.work self.new)) }
         ensures fault { IfErr result (λ e. StopsAt (core_of I.work self.old) steps.now e (core_of I.work self.new)) }
         ensures sound { IsSound (core_of I.work self.new) }
     {
+        // An empty list leaves the machine as it is, and it is sound.
         let _ = &self.next;
         for step in steps {
             self.apply(*step)?;
@@ -85,7 +92,7 @@ impl<I: ItemWork> Machine<I> {
     }
 
     fn draw(&mut self, worker: u32) -> Result<(), StepFault>
-        ensures ok { OnOk result ((is_lawful (core_of I.work self.old) (StepOf.Draw worker) ≡ true) × (core_of I.work self.new ≡ after (core_of I.work self.old) (StepOf.Draw worker))) }
+        ensures ok { OnOk result (Takes (core_of I.work self.old) (StepOf.Draw worker) (core_of I.work self.new)) }
         ensures fault { IfErr result (λ e. FaultComes (core_of I.work self.old) (StepOf.Draw worker) e) }
         ensures unchanged { OnErr result (core_of I.work self.new ≡ core_of I.work self.old) }
         ensures sound { IsSound (core_of I.work self.new) }
@@ -103,7 +110,7 @@ impl<I: ItemWork> Machine<I> {
     }
 
     fn run_row(&mut self, worker: u32) -> Result<(), StepFault>
-        ensures ok { OnOk result ((is_lawful (core_of I.work self.old) (StepOf.Row worker) ≡ true) × (core_of I.work self.new ≡ after (core_of I.work self.old) (StepOf.Row worker))) }
+        ensures ok { OnOk result (Takes (core_of I.work self.old) (StepOf.Row worker) (core_of I.work self.new)) }
         ensures fault { IfErr result (λ e. FaultComes (core_of I.work self.old) (StepOf.Row worker) e) }
         ensures unchanged { OnErr result (core_of I.work self.new ≡ core_of I.work self.old) }
         ensures sound { IsSound (core_of I.work self.new) }
@@ -120,7 +127,7 @@ impl<I: ItemWork> Machine<I> {
     }
 
     fn put_down(&mut self, worker: u32) -> Result<(), StepFault>
-        ensures ok { OnOk result ((is_lawful (core_of I.work self.old) (StepOf.Drop worker) ≡ true) × (core_of I.work self.new ≡ after (core_of I.work self.old) (StepOf.Drop worker))) }
+        ensures ok { OnOk result (Takes (core_of I.work self.old) (StepOf.Drop worker) (core_of I.work self.new)) }
         ensures fault { IfErr result (λ e. FaultComes (core_of I.work self.old) (StepOf.Drop worker) e) }
         ensures unchanged { OnErr result (core_of I.work self.new ≡ core_of I.work self.old) }
         ensures sound { IsSound (core_of I.work self.new) }

@@ -1,5 +1,4 @@
-use Rattle.std.proofs.Common.{◌≡◌, ℕ, ◌∙◌, sym, ap}
-use Rattle.phase_core.specs.Work.{Work}
+use Rattle.std.proofs.Common.{◌∙◌, sym, ap}
 use Rattle.phase_core.proofs.Lookups.{rows_of-map}
 use Rattle.phase_core.proofs.item.rows_at.Goals as goal
 

@@ -1,4 +1,4 @@
-use Rattle.std.proofs.Common.{◌≡◌, ◌<◌, ℕ, ◌∙◌, sym, subst, arith}
+use Rattle.std.proofs.Common.{◌<◌, ◌∙◌, subst}
 use Rattle.std.proofs.Math.Seq.{map-set_same}
 use Rattle.phase_core.proofs.Lookups.{rows_of-map, ran_of-map, map-set_row, on_ok, on_err}
 use Rattle.phase_core.proofs.item.run_row_at.Goals as goal

@@ -1,4 +1,4 @@
-use Rattle.std.proofs.Common.{◌≡◌, ap, map, replicate, rules}
+use Rattle.std.proofs.Common.{ap, map, rules}
 use Rattle.phase_core.proofs.Keeps.{opened_kept, sound}
 use Rattle.phase_core.proofs.machine.Machine.new.Goals as goal
 
