@@ -73,6 +73,7 @@ impl<T> ClaimTable<T> {
         requires { seat.old.table ≡ self.now }
         ensures own { seat.new.table ≡ seat.old.table }
         ensures gives { Gives seat.old.view result seat.new.view }
+        ensures stays { (seat.new.view.weight ≡ seat.old.view.weight) × (seat.new.view.pieces ≡ seat.old.view.pieces) }
     {
         if seat.ended {
             return Drawn::Ended;
