@@ -1,13 +1,13 @@
 -- What each call of the table asks of the rule, and what it tells.
-use Rattle.std.proofs.Common.{◌≡◌, ◌≢◌, ℕ, zero, suc, ◌+◌, ◌%◌, ◌^◌, ◌<◌, ◌≤◌, ◌⊎◌, inl, inr, ⊎_elim, Bool, true, false, List, [], ◌∷◌, ◌++◌, length, set, refl, sym, ◌∙◌, ap, arith, subst, Option, Some, None, slice_index, slice_get, length-set}
+use Rattle.std.proofs.Common.{◌≡◌, ℕ, ◌+◌, ◌%◌, ◌^◌, ◌<◌, ◌≤◌, ◌⊎◌, inl, inr, false, List, [], ◌∷◌, length, set, refl, sym, ◌∙◌, ap, arith, subst, Option, Some, slice_index, slice_get, length-set}
 use Rattle.std.proofs.lemmas.Bool.{cases_lt}
 use mathlib.Core.Option.{some, none}
 use lib.ListN.{get_elem?}
-use Rattle.atomic_table.specs.Table.{State, Me, Step, step, Act, takes, keeps, Valid, stepped, carried_after, rest, Allows, Splits, Joins}
+use Rattle.atomic_table.specs.Table.{State, Me, step, Act, takes, keeps, Valid, stepped, carried_after, rest, Allows, Splits, Joins}
 use Rattle.job_claims.specs.declared.view.View.{View}
 use Rattle.job_claims.specs.Views.{spent, after_split, split_off, with_drawn, with_end, joined}
-use Rattle.job_claims.specs.Rule.{times, Keeps, IsKept, Draws, IsEachOnce}
-use Rattle.job_claims.proofs.Steps.{Found, found, word_small, ended_keeps, split_keeps, move_keeps, join_keeps, complete}
+use Rattle.job_claims.specs.Rule.{times, Keeps, IsKept, Draws}
+use Rattle.job_claims.proofs.Steps.{Found, found, word_small, ended_keeps, split_keeps, move_keeps, join_keeps}
 
 -- the one word, after a write
 word-set : (ws : List ℕ) (x : ℕ) → length ws ≡ 1 → slice_index (set ws 0 x) 0 ≡ x

@@ -1,9 +1,8 @@
 -- Numbers of all views, added up, where one view changes or comes in.
-use Rattle.std.proofs.Common.{◌≡◌, ◌≢◌, ℕ, zero, suc, ◌+◌, ◌<◌, ◌≤◌, ◌⊎◌, inl, inr, ⊎_elim, Bool, true, false, List, [], ◌∷◌, ◌++◌, length, map, set, nat_lt, refl, sym, ◌∙◌, ap, arith, subst, min, Option, Some, None, slice_get, cond, eqb}
-use mathlib.Core.Option.{some, none, some-injective, some-ne-none}
+use Rattle.std.proofs.Common.{◌≡◌, ℕ, zero, suc, ◌+◌, ◌≤◌, List, [], ◌∷◌, ◌++◌, set, refl, sym, ap, arith, cond, eqb}
+use mathlib.Core.Option.{some, some-injective, some-ne-none}
 use lib.ListN.{get_elem?}
 use Rattle.job_claims.specs.declared.view.View.{View}
-use Rattle.job_claims.specs.Views.{spent}
 use Rattle.job_claims.specs.Rule.{times, total, once_below}
 
 module _ {T : Type 0} where

@@ -1,5 +1,5 @@
 -- What a seat knows, and how a step changes it.
-use Rattle.std.specs.Prelude.{◌≡◌, ℕ, ◌+◌, ◌-◌, Bool, true, false, ◌||◌, List, [], ◌∷◌, ◌++◌}
+use Rattle.std.specs.Prelude.{ℕ, ◌+◌, ◌-◌, true, false, ◌||◌, List, [], ◌∷◌, ◌++◌}
 use Rattle.job_claims.specs.declared.view.View.{View}
 
 module _ {T : Type 0} where

@@ -1,13 +1,15 @@
 // The table.
-ghost use Rattle.std.specs.Prelude.{◌≡◌, ◌^◌, ◌<◌, length, map, IfOk, IsTrue};
+ghost use Rattle.std.specs.Prelude.{◌≡◌, ◌^◌, ◌<◌, false, length, map, IfOk, IsTrue};
 ghost use Rattle.std.specs.Slots.{IsFull};
+ghost use mathlib.Core.Option.{none};
+ghost use Rattle.atomic_table.specs.Table.{step};
 ghost use Rattle.job_claims.specs.Views.{opened, after_split, split_off, joined};
-ghost use Rattle.job_claims.specs.Rule.{IsEachOnce, Gives};
+ghost use Rattle.job_claims.specs.Rule.{Draws, Gives, IsEachOnce};
 
 use crate::rule::{Both, Claims, Draw, Move, Share};
 use crate::seat::{ClaimSeat, Drawn};
 use crate::view::View;
-use atomic_table::{Closed, Table};
+use atomic_table::{Closed, Seat, Table};
 use ent_types::Memory;
 use std::alloc::{AllocError, Global};
 use std::marker::Model;
@@ -78,16 +80,25 @@ impl<T> ClaimTable<T> {
         if seat.ended {
             return Drawn::Ended;
         }
-        let number = self.table.shared.fetch_add::<Draw>(&mut seat.seat, 0, 1);
+        let number = self.take_number(&mut seat.seat);
         if number >= self.table.slot_count() as u64 {
             seat.ended = true;
             return Drawn::Ended;
         }
-        let piece = self
-            .table
-            .shared
-            .exchange(&mut seat.seat, number as usize, None);
+        let shared = &self.table.shared;
+        let piece = shared.exchange(&mut seat.seat, number as usize, None);
         Drawn::Piece(number as u32, piece.unwrap())
+    }
+
+    // The one atomic step of a draw: the claim word is raised by 1, and what it was is the number.
+    #[tactic(auto, using(crate::proofs::Allowed::draw_allowed))]
+    fn take_number(&self, seat: &mut Seat<Option<T>, View<T>>) -> u64
+        requires own { seat.old.table_id ≡ self.now }
+        requires going { (seat.old.me.0.ended ≡ false) × (0 < seat.old.me.0.weight) }
+        ensures own { seat.new.table_id ≡ seat.old.table_id }
+        ensures number { Draws (step self.now.slots 0 1 0 none) seat.old.me result seat.new.me }
+    {
+        self.table.shared.fetch_add::<Draw>(seat, 0, 1)
     }
 
     /// `into` takes in all that `from` knows and drew.

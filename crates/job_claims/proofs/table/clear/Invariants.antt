@@ -1,4 +1,4 @@
-use Rattle.std.proofs.Common.{◌≡◌, ℕ, ◌<◌, ◌≤◌, false, true, get_or, length}
+use Rattle.std.proofs.Common.{◌≡◌, ℕ, ◌<◌, ◌≤◌, false, true, get_or}
 use Rattle.std.specs.Slots.{slots_filled, slots_len}
 use Rattle.job_claims.proofs.table.clear.Given as goal
 

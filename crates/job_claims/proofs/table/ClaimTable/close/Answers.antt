@@ -1,4 +1,4 @@
-use Rattle.std.proofs.Common.{◌≡◌, ◌∙◌, ap, subst, length}
+use Rattle.std.proofs.Common.{◌∙◌, ap, subst, length}
 use Rattle.job_claims.specs.Rule.{IsEachOnce}
 use Rattle.job_claims.proofs.Steps.{complete}
 use Rattle.job_claims.proofs.table.ClaimTable.close.Goals as goal

@@ -1,4 +1,4 @@
-use Rattle.std.proofs.Common.{◌≡◌, ◌<◌, ◌+◌, ◌∙◌, sym, ap, subst, arith}
+use Rattle.std.proofs.Common.{◌∙◌, sym, ap, arith}
 use Rattle.job_claims.proofs.Allowed.{move_allowed, join_allowed}
 use Rattle.job_claims.proofs.table.ClaimTable.join_seats.Goals as goal
 

@@ -1,4 +1,4 @@
-use Rattle.std.proofs.Common.{◌≡◌, ◌<◌, ◌+◌, ◌∙◌, sym, ap, subst, arith}
+use Rattle.std.proofs.Common.{◌<◌, ◌∙◌, sym, ap, subst, arith}
 use Rattle.job_claims.proofs.Allowed.{split_allowed}
 use Rattle.job_claims.proofs.table.ClaimTable.split.Goals as goal
 
