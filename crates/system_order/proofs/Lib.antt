@@ -1,0 +1,6 @@
+pub mod Rows
+pub mod Tables
+pub mod Waits
+pub mod Chains
+pub mod Members
+pub mod Splices
