@@ -12,9 +12,9 @@ use Rattle.system_order.proofs.Waits.{places_none, places_some}
 
 -- a number stands in a list
 pub record Has (xs : List ℕ) (x : ℕ) : Type 0 where
-  at : ℕ
-  within : at < length xs
-  here : get_or xs at 0 ≡ x
+  pub at : ℕ
+  pub within : at < length xs
+  pub here : get_or xs at 0 ≡ x
 
 -- what stands in a list still stands there without one place, or stands at that place
 has_left : (xs : List ℕ) (i x : ℕ) → i < length xs → Has xs x → (x ≡ get_or xs i 0) ⊎ Has (remove xs i) x
@@ -34,7 +34,7 @@ has_left xs i x inside h =
     ]
 
 -- what stands in a list without one place stands in the list
-has_more : (xs : List ℕ) (i x : ℕ) → i < length xs → Has (remove xs i) x → Has xs x
+pub has_more : (xs : List ℕ) (i x : ℕ) → i < length xs → Has (remove xs i) x → Has xs x
 has_more xs i x inside h =
     elim (cases_lt h.at i) [
       | inl below ↦ record { at = h.at; within = omega (arith, below, inside); here = sym (get_or-remove_below xs i 0 h.at below inside) ∙ h.here }

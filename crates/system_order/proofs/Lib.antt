@@ -4,3 +4,5 @@ pub mod Waits
 pub mod Chains
 pub mod Members
 pub mod Splices
+pub mod Paths
+pub mod Full

@@ -6,6 +6,7 @@ mod child;
 mod cycle;
 mod fault;
 mod group;
+mod law;
 mod place;
 mod splice;
 #[cfg(test)]
@@ -13,4 +14,5 @@ mod tests;
 
 pub use child::{Band, Child};
 pub use fault::OrderFault;
+pub use law::{chains_are_paths, siblings_without_a_cycle_get_places};
 pub use splice::order;
