@@ -87,5 +87,9 @@ world_of w = record {
 }
 
 -- each block is even
+abbrev pub IsEvenBlock : PlainBlock → Type 0
+IsEvenBlock b = IsEven (parts_of b.parts.items) (length b.entities.items)
+
 abbrev pub AreEven : List PlainBlock → Type 0
-AreEven blocks = All (λ b. IsEven (parts_of b.parts.items) (length b.entities.items)) blocks
+AreEven [] = Unit {0}
+AreEven (b ∷ bs) = IsEvenBlock b × AreEven bs

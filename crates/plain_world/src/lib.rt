@@ -4,10 +4,14 @@
 mod assign;
 mod block;
 mod evaluation;
+mod frames;
+#[cfg(test)]
+mod tests;
 mod visiting;
 mod world;
 
 pub use block::{PlainBlock, TypeColumns};
 pub use evaluation::evaluate;
+pub use frames::{run_frame, run_frames};
 pub use visiting::visit;
-pub use world::PlainWorld;
+pub use world::{PlainWorld, raise, run_system};
