@@ -23,9 +23,14 @@ fn ended(
     Ok((status, out.text().to_vec(alloc)?))
 }
 
+// Words that are no command, and commands.
+const NO_COMMANDS: [&[&str]; 3] = [&[], &["run"], &["check", "-"]];
+
+const COMMANDS: [&[&str]; 3] = [&["run", "f"], &["check", "f"], &["make", "7"]];
+
 #[test]
 fn refuses_what_is_no_command(rt: HostRuntime) -> Result<(), Fail> {
-    for words in [[].as_slice(), ["run"].as_slice(), ["check", "-"].as_slice()] {
+    for words in NO_COMMANDS {
         let (status, text) = ended(&rt, rt.alloc(), words, &[])?;
         assert_eq!(rt; status, Status::BadWords);
         assert_eq!(rt; text.as_slice(), b"error words\n".as_slice());
@@ -35,11 +40,7 @@ fn refuses_what_is_no_command(rt: HostRuntime) -> Result<(), Fail> {
 
 #[test]
 fn refuses_what_is_not_built(rt: HostRuntime) -> Result<(), Fail> {
-    for words in [
-        ["run", "f"].as_slice(),
-        ["check", "f"].as_slice(),
-        ["make", "7"].as_slice(),
-    ] {
+    for words in COMMANDS {
         let (status, text) = ended(&rt, rt.alloc(), words, &[])?;
         assert_eq!(rt; status, Status::Refused);
         assert_eq!(rt;
@@ -52,7 +53,7 @@ fn refuses_what_is_not_built(rt: HostRuntime) -> Result<(), Fail> {
 
 #[test]
 fn tells_a_failed_write(rt: HostRuntime) -> Result<(), Fail> {
-    let (status, text) = ended(&rt, rt.alloc(), ["run", "f"].as_slice(), &[1])?;
+    let (status, text) = ended(&rt, rt.alloc(), &["run", "f"], &[1])?;
     assert_eq!(rt; status, Status::WriteFault);
     assert_eq!(rt; text.as_slice(), [].as_slice());
     Ok(())
