@@ -1,8 +1,10 @@
 //! The little language of scenarios: the trees that its texts mean.
 #![tactic(auto)]
 
+mod chain;
 mod tree;
 
+pub use chain::read_chain;
 pub use tree::{
     Assign, BinaryOp, CommandText, Expr, PartExpr, RefExpr, Switch, UnaryOp, ValueExpr, Variable,
 };
