@@ -2,6 +2,8 @@
 #![tactic(auto)]
 
 mod chain;
+mod fronts;
+mod places;
 mod tree;
 
 pub use chain::read_chain;
