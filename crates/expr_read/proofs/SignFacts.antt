@@ -1,5 +1,5 @@
 -- Signs and the bytes that spell them.
-use Rattle.std.proofs.Common.{ℕ, ◌≡◌, ◌≤◌, ◌<◌, List, [], ◌∷◌, Bool, true, false, cond, eqb, length, get_or, Option, Some, None, refl, sym, ap, ◌∙◌, subst, lit<, lit≤}
+use Rattle.std.proofs.Common.{ℕ, ◌≡◌, ◌≤◌, ◌<◌, List, [], ◌∷◌, Bool, true, false, cond, eqb, length, get_or, Option, Some, None, refl, subst, lit<, lit≤}
 use Rattle.std.proofs.lemmas.Bool.{eqb-true}
 use Rattle.std.specs.Char.{is_ascii_digit}
 use Rattle.ent_types.specs.Names.{is_name_start}

@@ -1,5 +1,5 @@
 -- The tokens of a text are those that its fronts give, one after another.
-use Rattle.std.proofs.Common.{ℕ, zero, suc, ◌≡◌, ◌≤◌, ◌<◌, ◌+◌, List, [], ◌∷◌, Bool, true, false, ◌&&◌, ◌||◌, cond, eqb, length, get_or, take, drop, map, Option, Some, None, refl, sym, ap, ◌∙◌, subst, arith, length-take-le, length-drop}
+use Rattle.std.proofs.Common.{ℕ, zero, suc, ◌≡◌, ◌≤◌, ◌<◌, ◌+◌, List, [], ◌∷◌, Bool, true, false, cond, eqb, length, get_or, take, drop, map, Option, Some, None, refl, sym, ap, ◌∙◌, subst, arith, length-take-le, length-drop}
 use Rattle.std.specs.List.{list_all, prefix_len, take_while}
 use Rattle.std.specs.Char.{is_ascii_digit}
 use Rattle.std.proofs.lemmas.Bool.{and_parts, false≢true, eq-eqb, eqb-true}
@@ -12,7 +12,7 @@ use Rattle.ent_types.specs.Names.{is_name_start, is_name_byte}
 use Rattle.expr_tokens.specs.declared.sign.Sign.{Sign}
 use Rattle.expr_tokens.specs.declared.token.Lexeme.{Lexeme}
 use Rattle.expr_tokens.specs.Seen.{seen}
-use Rattle.expr_tokens.specs.Tokens.{Token, word, number, sign, bad, spelling, is_word, is_digits, number_value, IsToken, IsLongest, BeginsNone, Spans, Placed, AreTokens, IsSpace, pair_of, single_of}
+use Rattle.expr_tokens.specs.Tokens.{Token, word, number, sign, bad, is_word, is_digits, number_value, IsLongest, BeginsNone, Spans, Placed, AreTokens, IsSpace, pair_of, single_of}
 use Rattle.expr_read.specs.Chains.{Front, front, pair_front, sign_front, lone_sign, run_front, tokens_upto, token_list}
 use Rattle.expr_read.specs.ChainFronts.{tokens_of}
 use Rattle.expr_read.proofs.SignFacts.{read, sign_facts, pair_sound, single_sound}

@@ -1,11 +1,11 @@
 -- What stands in front of the tokens of a chain.
-use Rattle.std.specs.Prelude.{ℕ, List, [], ◌∷◌, Bool, true, false, Option, None, Some, option_map, option_and_then, if◌then◌else◌, map}
+use Rattle.std.specs.Prelude.{ℕ, List, ◌∷◌, Bool, true, false, Option, None, Some, option_map, option_and_then, if◌then◌else◌, map}
 use Rattle.ent_types.specs.declared.type_info.TypeInfo.{TypeInfo}
 use Rattle.expr_tokens.specs.declared.sign.Sign.{Sign}
 use Rattle.expr_tokens.specs.declared.sign.Sign.TheVariants.{Dot, Assign as Equals}
 use Rattle.expr_tokens.specs.declared.token.Lexeme.{Lexeme}
 use Rattle.expr_tokens.specs.Seen.{seen}
-use Rattle.expr_tokens.specs.Tokens.{Token, word, number, sign, bad}
+use Rattle.expr_tokens.specs.Tokens.{Token, word, number, sign}
 use Rattle.expr_read.specs.declared.tree.BinaryOp.{BinaryOp}
 use Rattle.expr_read.specs.declared.tree.Expr.{Expr}
 use Rattle.expr_read.specs.Chains.{FieldPlace, number_operand, own_operand, bound_field, operator}

@@ -1,6 +1,5 @@
 -- Which texts of `set` are run: `TYPE.FIELD = s`, where s is a chain of numbers and own fields joined by `+` and `-`.
-use Rattle.std.specs.Prelude.{ℕ, zero, suc, pos, ◌&&◌, ◌^◌, ◌==◌, Bool, take_while, drop, nat_lt, nat_le, if◌then◌else◌, List, [], ◌∷◌, length, Option, None, Some, option_and_then, option_map}
-use Rattle.ent_types.specs.declared.entity.TypeId.{TypeId}
+use Rattle.std.specs.Prelude.{ℕ, zero, suc, pos, ◌^◌, ◌==◌, Bool, take_while, drop, nat_lt, nat_le, if◌then◌else◌, List, [], ◌∷◌, length, Option, None, Some, option_and_then, option_map}
 use Rattle.ent_types.specs.declared.type_info.TypeInfo.{TypeInfo}
 use Rattle.ent_types.specs.Types.{field_named}
 use Rattle.ent_types.specs.Registries.{type_named, type_at}

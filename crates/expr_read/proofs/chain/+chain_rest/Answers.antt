@@ -1,6 +1,5 @@
 use Rattle.std.proofs.Common.{◌≡◌, ◌<◌, subst, IfOk, arith, length}
 use Rattle.expr_read.specs.ChainFronts.{tokens_of}
-use Rattle.expr_read.specs.declared.tree.Expr.{Expr}
 use Rattle.expr_read.proofs.ChainSteps.{joined_rest}
 use Rattle.expr_read.proofs.chain.+chain_rest.Goals as goal
 
