@@ -1,6 +1,5 @@
 -- Which texts of `set` are run: `TYPE.FIELD = s`, where s is a chain of numbers and own fields joined by `+` and `-`.
-use Rattle.std.specs.Prelude.{ℕ, zero, suc, pos, ◌&&◌, ◌^◌, ◌==◌, Bool, take_while, drop, nat_lt, nat_le, if◌then◌else◌, List, [], ◌∷◌, length, Option, None, Some, option_and_then, option_map}
-use Rattle.ent_types.specs.declared.entity.TypeId.{TypeId}
+use Rattle.std.specs.Prelude.{ℕ, zero, suc, pos, ◌^◌, ◌==◌, Bool, take_while, drop, nat_lt, nat_le, if◌then◌else◌, List, [], ◌∷◌, length, Option, None, Some, option_and_then, option_map}
 use Rattle.ent_types.specs.declared.type_info.TypeInfo.{TypeInfo}
 use Rattle.ent_types.specs.Types.{field_named}
 use Rattle.ent_types.specs.Registries.{type_named, type_at}
@@ -74,12 +73,13 @@ abbrev pub lone_sign : Option Sign → List ℕ → Front
 lone_sign (Some s) bs = record { token = sign s; rest = bs }
 lone_sign None bs = record { token = bad; rest = [] }
 
+abbrev pub pair_front : Option Sign → ℕ → ℕ → List ℕ → Front
+pair_front (Some s) b c cs = record { token = sign s; rest = cs }
+pair_front None b c cs = lone_sign (single_of b) (c ∷ cs)
+
 abbrev pub sign_front : ℕ → List ℕ → Front
 sign_front b [] = lone_sign (single_of b) []
-sign_front b (c ∷ cs) = pair_front (pair_of b c) where
-  pair_front : Option Sign → Front
-  pair_front (Some s) = record { token = sign s; rest = cs }
-  pair_front None = lone_sign (single_of b) (c ∷ cs)
+sign_front b (c ∷ cs) = pair_front (pair_of b c) b c cs
 
 abbrev pub run_front : (List ℕ → Token) → (ℕ → Bool) → ℕ → List ℕ → Front
 run_front make belongs b bs =

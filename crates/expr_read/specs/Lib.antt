@@ -1,1 +1,2 @@
+pub mod ChainFronts
 pub mod Chains

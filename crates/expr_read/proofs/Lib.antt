@@ -1,0 +1,3 @@
+mod ChainSteps
+mod SignFacts
+mod TokenFronts
