@@ -1,5 +1,5 @@
 //! The places of siblings: each has the earliest of the rest that none of the rest precedes.
-ghost use Rattle.std.specs.Prelude.{◌≡◌, ℕ, ◌<◌, All, IfOk, length, map, position, ◌==◌};
+ghost use Rattle.std.specs.Prelude.{◌≡◌, ◌<◌, All, IfOk, length, map, position, ◌==◌};
 ghost use Rattle.system_order.specs.Child.{precedes};
 
 use crate::Child;
