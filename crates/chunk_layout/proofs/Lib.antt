@@ -1,0 +1,4 @@
+pub mod Rounding
+pub mod CapacityLemmas
+pub mod Sublists
+pub mod PlacesLemmas

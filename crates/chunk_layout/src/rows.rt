@@ -1,0 +1,65 @@
+//! The capacity rule: the greatest number of rows, up to 128, whose columns fit into a block.
+
+ghost use Rattle.std.specs.Prelude.{◌≡◌, ℕ, ◌+◌, ◌*◌, ◌≤◌, ◌<◌, ◌^◌, length, All, sum_by};
+ghost use Rattle.chunk_layout.specs.Capacity.{up64, column_bytes, block_bytes, capacity_of, IsCapacity};
+
+/// The most rows that a block holds (Unity's number).
+pub const MAX_ROWS: u32 = 128;
+
+/// The bytes of a block beside its header of 64 bytes.
+const COLUMN_ROOM: u32 = 16_320;
+
+/// A number of bytes, rounded up to a multiple of 64.
+pub fn up64(bytes: u32) -> u32
+    requires { bytes ≤ 2 ^ 20 }
+    ensures value { result ≡ up64 bytes }
+    ensures at_least { bytes ≤ result }
+    ensures least { (q : ℕ) → bytes ≤ q * 64 → result ≤ q * 64 }
+{
+    bytes.next_multiple_of(64)
+}
+
+/// The bytes of one column for a number of rows.
+pub fn column_bytes(size: u32, rows: u32) -> u32
+    requires small { size ≤ 512 }
+    requires within { rows ≤ 128 }
+    ensures value { result ≡ column_bytes rows size }
+    ensures bound { result ≤ 65536 }
+{
+    up64(size * rows)
+}
+
+/// The bytes that the id column and the columns of these sizes take for a number of rows.
+fn block_bytes(sizes: &[u32], rows: u32) -> u32
+    requires few { length sizes.now ≤ 256 }
+    requires small { All (λ size. size ≤ 512) sizes.now }
+    requires within { rows ≤ 128 }
+    ensures { result ≡ block_bytes sizes.now rows }
+{
+    let mut bytes = up64(8 * rows);
+    for size in sizes {
+        bytes += column_bytes(*size, rows);
+    }
+    bytes
+}
+
+/// The greatest number of rows, up to 128, for which the columns of these sizes fit into a block.
+pub fn capacity(sizes: &[u32]) -> u32
+    requires few { length sizes.now ≤ 256 }
+    requires small { All (λ size. size ≤ 512) sizes.now }
+    ensures value { result ≡ capacity_of sizes.now }
+    ensures meaning { IsCapacity sizes.now result }
+{
+    // Fewer rows never take more bytes, so the search may halve what is left.
+    let mut fitting = 0;
+    let mut limit = MAX_ROWS;
+    while fitting < limit {
+        let middle = limit - (limit - fitting) / 2;
+        if block_bytes(sizes, middle) <= COLUMN_ROOM {
+            fitting = middle;
+        } else {
+            limit = middle - 1;
+        }
+    }
+    fitting
+}
