@@ -117,6 +117,10 @@ fn splice(alloc: Global, children: &[Child], orders: &[Sequence<u32>]) -> Result
 /// The answer is [`OrderFault::Cycle`] exactly where in some group a child precedes itself through a chain. It
 /// names the earliest declared such child of the first such group, where the roots come first.
 ///
+/// Callers see to it that the children 0, 1 and 2 are groups, that all groups stand before all systems, that the
+/// parent of each later child is an earlier group, and that a child's names are its siblings. No step relies on
+/// that: a name that is no sibling says nothing.
+///
 /// The bands and names are those of Unity's system groups. That they count alike, so that one against another is a
 /// cycle, and that the earliest declared child comes first, are this project's own.
 #[tactic(auto, unfolding(crate::specs::Order::order_of))]
