@@ -1,6 +1,6 @@
 -- Siblings without a cycle all get a place.
-use Rattle.std.proofs.Common.{◌≡◌, ℕ, ◌+◌, ◌<◌, ◌≤◌, suc, zero, eqb, ltb, Bool, true, false, cond, ◌⊎◌, inl, inr, List, [], ◌∷◌, Option, Some, None, length, get_or, ap, ◌∙◌, sym, refl, subst, arith}
-use Rattle.std.specs.List.{count_by, find, position, position_or_len, remove, sum_by}
+use Rattle.std.proofs.Common.{◌≡◌, ℕ, ◌+◌, ◌<◌, ◌≤◌, suc, zero, eqb, ltb, Bool, true, false, cond, inl, inr, List, [], ◌∷◌, Option, Some, None, length, get_or, ap, ◌∙◌, sym, refl, subst, arith}
+use Rattle.std.specs.List.{count_by, find, position, position_or_len, remove}
 use Rattle.std.specs.List.Sorted.{IsPermutation}
 use Rattle.std.proofs.lemmas.Bool.{cases_Bool, cases_lt, cond-true, ltb-false, true≢false}
 use Rattle.std.proofs.lemmas.List.{get_or_default, nil_from_length}

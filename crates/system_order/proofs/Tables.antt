@@ -1,5 +1,5 @@
 -- Relations as tables of marks.
-use Rattle.std.proofs.Common.{◌≡◌, ℕ, ◌+◌, ◌<◌, ◌≤◌, Bool, true, false, ◌||◌, ◌&&◌, cond, List, [], ◌∷◌, ◌++◌, length, get_or, take, map, ap, ◌∙◌, sym, refl, arith}
+use Rattle.std.proofs.Common.{◌≡◌, ℕ, ◌+◌, ◌<◌, Bool, true, false, ◌||◌, ◌&&◌, List, [], ◌∷◌, ◌++◌, length, get_or, take, map, ap, ◌∙◌, sym, refl, arith}
 use Rattle.std.specs.List.{zip, All}
 use Rattle.std.proofs.lemmas.List.{length-map, get_or-map, ext_get_or, take_more}
 use Rattle.std.proofs.lemmas.Bool.{and_left}

@@ -1,8 +1,8 @@
 -- Siblings that wait for their places.
-use Rattle.std.proofs.Common.{◌≡◌, ℕ, ◌+◌, ◌-◌, ◌<◌, suc, zero, eqb, ltb, Bool, true, false, not, cond, List, [], ◌∷◌, ◌++◌, Option, Some, None, length, get_or, take, drop, map, ap, ◌∙◌, sym, refl, arith, map-id}
-use Rattle.std.specs.List.{All, remove, position, position_or_len, prefix_len, count_by, sum_by, slice_index}
+use Rattle.std.proofs.Common.{◌≡◌, ℕ, ◌+◌, ◌-◌, ◌<◌, suc, zero, eqb, ltb, Bool, true, false, not, cond, List, [], ◌∷◌, ◌++◌, Some, None, length, get_or, take, drop, map, ap, ◌∙◌, sym, refl, arith, map-id}
+use Rattle.std.specs.List.{All, remove, position, position_or_len, prefix_len, slice_index}
 use Rattle.std.specs.Option.{option_map_or}
-use Rattle.std.proofs.lemmas.List.{length-map, take-map, drop-map, map-append, get_or-map}
+use Rattle.std.proofs.lemmas.List.{length-map, take-map, drop-map, map-append}
 use Rattle.std.proofs.lemmas.List.Edits.{length-remove}
 use Rattle.std.proofs.lemmas.List.Elements.{All-append, All-drop, All-take}
 use Rattle.std.proofs.lemmas.List.Quantifiers.{position-Some}

@@ -1,5 +1,5 @@
 //! The search for a sibling that precedes itself through a chain.
-ghost use Rattle.std.specs.Prelude.{◌≡◌, ℕ, ◌<◌, Bool, false, true, ◌||◌, ◌&&◌, All, IfOk, OnOk, List, [], length, map, slice_index_or};
+ghost use Rattle.std.specs.Prelude.{◌≡◌, ℕ, ◌<◌, Bool, false, true, ◌||◌, All, IfOk, OnOk, List, [], length, map, slice_index_or};
 ghost use Rattle.system_order.specs.Chain.{earliest_on_cycle, table_of, widened};
 ghost use Rattle.system_order.specs.Child.{precedes};
 

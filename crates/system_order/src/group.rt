@@ -63,8 +63,9 @@ pub(crate) fn order_group(
     if placed.len() == siblings.len() {
         return Ok(placed);
     }
+    // Siblings that don't all get a place have a cycle.
     match find_cycle(alloc, children, &siblings)? {
         Some(child) => Err(OrderFault::Cycle(child)),
-        None => Ok(placed),
+        None => unreachable!(),
     }
 }

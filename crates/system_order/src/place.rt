@@ -1,6 +1,7 @@
 //! The places of siblings: each has the earliest of the rest that none of the rest precedes.
-ghost use Rattle.std.specs.Prelude.{◌≡◌, ℕ, ◌<◌, All, IfOk, length, map, position, ◌==◌};
+ghost use Rattle.std.specs.Prelude.{◌≡◌, ◌<◌, All, IfOk, length, map, position, ◌==◌};
 ghost use Rattle.system_order.specs.Child.{precedes};
+ghost use Rattle.system_order.specs.Place.{blockers_of, places, released, waiting_list};
 
 use crate::Child;
 use crate::group::is_before;
@@ -15,8 +16,6 @@ pub(crate) struct Waiting {
     /// How many of those that have no place yet precede it.
     blockers: usize,
 }
-
-ghost use Rattle.system_order.specs.Place.{blockers_of, places, released, waiting_list};
 
 /// How many of the siblings precede one of them.
 fn count_blockers(children: &[Child], siblings: &[u32], child: u32) -> usize

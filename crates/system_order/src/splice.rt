@@ -1,5 +1,5 @@
 //! The order of all systems: the rows of the groups, put in place of the groups.
-ghost use Rattle.std.specs.Prelude.{◌≡◌, ◌++◌, ◌^◌, ◌<◌, ◌≤◌, All, IfErr, IfOk, OnOk, None, [], ◌∷◌, length, map};
+ghost use Rattle.std.specs.Prelude.{◌≡◌, ◌++◌, ◌^◌, ◌<◌, IfErr, IfOk, OnOk, None, [], ◌∷◌, length, map};
 ghost use Rattle.std.specs.Bool.{OnTrue};
 ghost use Rattle.std.specs.List.{flat_map, list_any, range_with_len};
 ghost use Rattle.system_order.specs.Child.{child_at};
@@ -116,6 +116,10 @@ fn splice(alloc: Global, children: &[Child], orders: &[Sequence<u32>]) -> Result
 ///
 /// The answer is [`OrderFault::Cycle`] exactly where in some group a child precedes itself through a chain. It
 /// names the earliest declared such child of the first such group, where the roots come first.
+///
+/// Callers see to it that the children 0, 1 and 2 are groups, that all groups stand before all systems, that the
+/// parent of each later child is an earlier group, and that a child's names are its siblings. No step relies on
+/// that: a name that is no sibling says nothing.
 ///
 /// The bands and names are those of Unity's system groups. That they count alike, so that one against another is a
 /// cycle, and that the earliest declared child comes first, are this project's own.

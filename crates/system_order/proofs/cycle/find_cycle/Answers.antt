@@ -1,10 +1,10 @@
-use Rattle.std.proofs.Common.{◌≡◌, ◌<◌, ◌∙◌, Bool, List, [], ap, sym, refl, subst, arith, length, take, drop, map, false, true, get_or}
+use Rattle.std.proofs.Common.{◌≡◌, ◌∙◌, Bool, List, [], ap, sym, subst, arith, length, take, drop, map, false, true, get_or}
 use Rattle.std.specs.List.{All}
 use Rattle.std.proofs.lemmas.List.{take_at}
-use Rattle.system_order.specs.Chain.{chained, earliest_on_cycle, table_of, widened}
+use Rattle.system_order.specs.Chain.{chained, earliest_on_cycle, widened}
 use Rattle.system_order.specs.Child.{precedes}
 use Rattle.system_order.proofs.Rows.{find_here, find_past}
-use Rattle.system_order.proofs.Tables.{length-table_of, length-table_row, square_table, table_mark, table_more}
+use Rattle.system_order.proofs.Tables.{length-table_row, square_table, table_mark, table_more}
 use Rattle.system_order.proofs.cycle.find_cycle.Goals as goal
 
 pub loop-middle-init : goal.loop-middle-init

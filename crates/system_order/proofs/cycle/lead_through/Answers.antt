@@ -1,4 +1,4 @@
-use Rattle.std.proofs.Common.{◌≡◌, ◌<◌, ◌∙◌, ap, sym, refl, arith, length}
+use Rattle.std.proofs.Common.{◌<◌, arith, length}
 use Rattle.std.proofs.lemmas.List.Edits.{map_over_more}
 use Rattle.system_order.specs.Chain.{widened}
 use Rattle.system_order.proofs.cycle.lead_through.Goals as goal

@@ -1,4 +1,4 @@
-use Rattle.std.proofs.Common.{◌≡◌, ◌<◌, ◌∙◌, ◌++◌, ℕ, List, [], ◌∷◌, ap, sym, refl, subst, arith, append_assoc, append-nil, length, take, drop, eqb, map}
+use Rattle.std.proofs.Common.{◌≡◌, ◌<◌, ◌∙◌, ◌++◌, ℕ, List, [], ◌∷◌, ap, sym, subst, arith, append_assoc, append-nil, length, take, drop, eqb, map}
 use Rattle.std.specs.List.{All, position, remove}
 use Rattle.std.proofs.lemmas.List.{get_or-map, take_at}
 use Rattle.std.proofs.lemmas.List.Elements.{All-map}

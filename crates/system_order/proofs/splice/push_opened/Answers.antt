@@ -1,7 +1,6 @@
-use Rattle.std.proofs.Common.{◌≡◌, ◌<◌, ◌∙◌, ◌++◌, ℕ, List, ap, sym, refl, arith, length}
+use Rattle.std.proofs.Common.{◌∙◌, ◌++◌, ℕ, List, ap, sym, arith, length}
 use Rattle.std.proofs.lemmas.List.FromFn.{length-map-range_with_len}
-use Rattle.system_order.specs.Child.{child_at}
-use Rattle.system_order.specs.Order.{opened, placed_in}
+use Rattle.system_order.specs.Order.{placed_in}
 use Rattle.system_order.proofs.Splices.{order_at}
 use Rattle.system_order.proofs.splice.push_opened.Goals as goal
 

@@ -1,4 +1,4 @@
-use Rattle.std.proofs.Common.{◌≡◌, ◌<◌, ◌≤◌, ◌+◌, ◌-◌, ◌∙◌, ℕ, suc, false, List, ap, sym, refl, arith, length}
+use Rattle.std.proofs.Common.{◌≡◌, ◌+◌, ◌-◌, ◌∙◌, ℕ, suc, false, ap, sym, arith, length}
 use Rattle.std.specs.List.{flat_map, list_any}
 use Rattle.system_order.specs.Child.{child_at}
 use Rattle.system_order.specs.Order.{opened, spliced}

@@ -1,6 +1,5 @@
-use Rattle.std.proofs.Common.{◌≡◌, ◌<◌, ◌||◌, ℕ, ◌∙◌, List, Bool, ap, sym, refl, subst, arith, length, drop, false, get_or}
+use Rattle.std.proofs.Common.{◌≡◌, ◌||◌, ◌∙◌, List, Bool, ap, sym, arith, length, drop, false, get_or}
 use Rattle.std.proofs.lemmas.List.{take_at}
-use Rattle.system_order.specs.Chain.{widened}
 use Rattle.system_order.proofs.Tables.{widened_marked, widened_unmarked}
 use Rattle.system_order.proofs.cycle.Row.widen.Goals as goal
 
