@@ -145,17 +145,3 @@ fn no_chains(rt: HostRuntime) -> Result<(), Fail> {
     }
     Ok(())
 }
-
-#[test]
-fn longest_texts(rt: HostRuntime) -> Result<(), Fail> {
-    let alloc = rt.alloc();
-    let mut text = String::new(alloc);
-    text.push_str("P.v = 1")?;
-    while text.len() < 1024 {
-        text.push_str(" ")?;
-    }
-    assert!(rt; reads(alloc, text.as_str(), 0, Number(1), &[])?);
-    text.push_str(" ")?;
-    assert!(rt; is_refused(alloc, text.as_str())?);
-    Ok(())
-}
