@@ -1,1 +1,16 @@
+pub mod DistinctNames
+pub mod LawfulTypes
+pub mod Lookups
 pub mod Padding
+pub mod TypeBits
+pub mod TypeCounts
+pub mod TypePairs
+pub mod TypeScan
+pub mod TypeSetLaws
+pub mod TypeSetLemmas
+pub mod TypeSetRelations
+pub mod TypeWalk
+pub mod VersionLemmas
+pub mod RefusalLemmas
+pub mod RegistryLemmas
+pub mod TypeNumbers

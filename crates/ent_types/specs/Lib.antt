@@ -1,2 +1,10 @@
+pub mod Fitting
 pub mod Names
 pub mod PaddedNames
+pub mod TypeSets
+pub mod TypeWords
+pub mod TypeWordsBack
+pub mod Versions
+pub mod Refusals
+pub mod Registries
+pub mod Types

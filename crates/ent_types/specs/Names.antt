@@ -15,4 +15,3 @@ is_name bytes = (nat_lt 0 (length bytes) && nat_le (length bytes) 32) && (is_nam
 -- the name with these bytes
 abbrev pub name_of : List ℕ → Option (List ℕ)
 name_of bytes = if is_name bytes then Some bytes else None
-

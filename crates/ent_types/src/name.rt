@@ -11,8 +11,8 @@ ghost use Rattle.std.proofs.Common.{rules};
 ghost use Rattle.ent_types.specs.Names.{is_name, is_name_start, is_name_byte, name_of};
 
 use std::cmp::Ordering;
-use std::hash::{Hash, Hasher};
 use std::fmt;
+use std::hash::{Hash, Hasher};
 use std::marker::Model;
 
 /// The greatest number of bytes of a name.

@@ -1,3 +1,4 @@
+mod ChainSteps
 mod Complete
 mod Completions
 mod Keeps
@@ -5,6 +6,8 @@ mod Prefixes
 mod ReadExprs
 mod ReadRefs
 mod Runs
+mod SignFacts
 mod Takes
+mod TokenFronts
 mod Unique
 mod Whole

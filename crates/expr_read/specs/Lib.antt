@@ -1,3 +1,5 @@
+pub mod ChainFronts
+pub mod Chains
 pub mod Faults
 pub mod Fitting
 pub mod Grammar

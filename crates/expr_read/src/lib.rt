@@ -1,12 +1,16 @@
 //! The little language of scenarios: its texts, and the trees that they mean.
 #![tactic(auto)]
 
+mod chain;
 mod fault;
+mod fronts;
 mod laws;
+mod places;
 mod symbol;
 mod tree;
 mod words;
 
+pub use chain::read_chain;
 pub use fault::{ExprCause, ExprFault};
 pub use laws::{goes_on_with_the_grammar, machine_reads_the_grammar, one_derivation};
 pub use tree::{

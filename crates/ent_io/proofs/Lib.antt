@@ -1,0 +1,4 @@
+pub mod Appends
+pub mod Exits
+pub mod Fronts
+pub mod LineLoop

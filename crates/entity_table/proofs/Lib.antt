@@ -1,0 +1,4 @@
+pub mod TableLemmas
+pub mod SlotLemmas
+pub mod AliveSlot
+pub mod Ahead

@@ -1,0 +1,50 @@
+-- What the top call promises.
+use Rattle.std.specs.Prelude.{◌≡◌, ℕ, List, Option, None, Some, Result, Ok, Err}
+use Rattle.ent_io.specs.Text.{appended, AppendsPrefix}
+use Rattle.ent_io.specs.declared.end.End.{End}
+use Rattle.ent_io.specs.declared.end.Status.{Status}
+use Rattle.ent_io.specs.declared.end.Status.TheVariants.{Done, BadWords, Refused, KeyShared, ReadFault, WriteFault, Memory}
+use Rattle.entsim.specs.Words.{Command}
+use Rattle.entsim.specs.Outcome.{Outcome}
+
+-- the status is the outcome's, and exactly its text was appended
+abbrev pub IsGiven : Outcome → Status → Option (List ℕ) → Option (List ℕ) → Type 0
+IsGiven o status old new = (status ≡ o.status) × (new ≡ appended old o.text)
+
+-- a call below the top: the outcome, or at an end before it a prefix of the text
+abbrev pub Gives : Outcome → Result Status End → Option (List ℕ) → Option (List ℕ) → Type 0
+Gives o (Ok status) old new = IsGiven o status old new
+Gives o (Err end) old new = AppendsPrefix o.text old new
+
+-- The headline: the status and the text are those of the outcome. Where the store or the sink failed, or memory ran
+-- out, a prefix of the text was appended.
+abbrev pub Ends : Outcome → Status → Option (List ℕ) → Option (List ℕ) → Type 0
+Ends o Done old new = IsGiven o Done old new
+Ends o BadWords old new = IsGiven o BadWords old new
+Ends o Refused old new = IsGiven o Refused old new
+Ends o KeyShared old new = IsGiven o KeyShared old new
+Ends o ReadFault old new = AppendsPrefix o.text old new
+Ends o WriteFault old new = AppendsPrefix o.text old new
+Ends o Memory old new = AppendsPrefix o.text old new
+
+-- BadWords comes exactly by the words, whatever is told
+abbrev pub WordsDecide : Option Command → Status → Type 0
+WordsDecide None Done = ⊥
+WordsDecide None BadWords = Unit {0}
+WordsDecide None Refused = ⊥
+WordsDecide None KeyShared = ⊥
+WordsDecide None ReadFault = Unit {0}
+WordsDecide None WriteFault = Unit {0}
+WordsDecide None Memory = Unit {0}
+WordsDecide (Some command) Done = Unit {0}
+WordsDecide (Some command) BadWords = ⊥
+WordsDecide (Some command) Refused = Unit {0}
+WordsDecide (Some command) KeyShared = Unit {0}
+WordsDecide (Some command) ReadFault = Unit {0}
+WordsDecide (Some command) WriteFault = Unit {0}
+WordsDecide (Some command) Memory = Unit {0}
+
+-- the same of a call below the top
+abbrev pub AnswersWords : Option Command → Result Status End → Type 0
+AnswersWords command (Ok status) = WordsDecide command status
+AnswersWords command (Err end) = Unit {0}

@@ -1,0 +1,17 @@
+//! The world on one thread, as the forms that are run need it: rows in columns, block after block.
+#![tactic(auto)]
+
+mod assign;
+mod block;
+mod evaluation;
+mod frames;
+#[cfg(test)]
+mod tests;
+mod visiting;
+mod world;
+
+pub use block::{PlainBlock, TypeColumns};
+pub use evaluation::evaluate;
+pub use frames::{run_frame, run_frames};
+pub use visiting::visit;
+pub use world::{PlainWorld, raise, run_system};

@@ -1,0 +1,4 @@
+pub mod Child
+pub mod Place
+pub mod Chain
+pub mod Order
