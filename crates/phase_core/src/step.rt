@@ -7,7 +7,7 @@ use ent_types::Memory;
 /// One step of the worker with this number. Workers count from 0.
 #[derive(Clone, Copy, Debug, PartialEq, Eq)]
 pub enum StepOf {
-    /// The worker, which is idle, takes the next item at its row 0, or ends where no item is left.
+    /// The worker, which is idle, takes the next item at its first row, or ends where no item is left.
     Draw(u32),
     /// The worker runs the next row of its item.
     Row(u32),
