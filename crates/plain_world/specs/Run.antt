@@ -50,10 +50,10 @@ kept kind seen v = Int (kept_number kind seen v)
 
 -- ---- spawns
 
--- the values of a part, by the fields of its type
+-- the values of a part, one for each field of its type; 0 where none is given
 abbrev pub part_values : List FieldInfo → List ValueExpr → List Value
 part_values [] vs = []
-part_values (f ∷ fs) [] = []
+part_values (f ∷ fs) [] = Int (pos 0) ∷ part_values fs []
 part_values (f ∷ fs) (v ∷ vs) = kept f.kind nothing_seen v ∷ part_values fs vs
 
 abbrev pub cell_of : List TypeInfo → PartExpr → Cell

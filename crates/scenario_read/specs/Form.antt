@@ -127,8 +127,9 @@ abbrev pub read_parts : List TypeInfo → Members → Option (List PartExpr)
 read_parts registry no_members = Some []
 read_parts registry (member k d ms) = option_and_then (λ p. option_map (λ ps. p ∷ ps) (read_parts registry ms)) (read_part registry k d)
 
+-- at most 256 parts
 abbrev pub read_with : List TypeInfo → Data → Option (List PartExpr)
-read_with registry (table ms) = read_parts registry ms
+read_with registry (table ms) = option_and_then (λ ps. if nat_le (length ps) 256 then Some ps else None) (read_parts registry ms)
 read_with registry _ = None
 
 abbrev pub read_spawn : List TypeInfo → Data → Option SpawnEntry

@@ -1,0 +1,2 @@
+//! The lines that a run prints.
+#![tactic(auto)]
