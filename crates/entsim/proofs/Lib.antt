@@ -1,3 +1,4 @@
-pub mod Numerals
-pub mod Merged
-pub mod Statuses
+mod Merged
+mod Numerals
+mod Statuses
+mod Told

@@ -48,3 +48,31 @@ WordsDecide (Some command) Memory = Unit {0}
 abbrev pub AnswersWords : Option Command → Result Status End → Type 0
 AnswersWords command (Ok status) = WordsDecide command status
 AnswersWords command (Err end) = Unit {0}
+
+-- a call that ends well has one of the statuses of a whole text
+abbrev pub IsWhole : Status → Type 0
+IsWhole Done = Unit {0}
+IsWhole BadWords = Unit {0}
+IsWhole Refused = Unit {0}
+IsWhole KeyShared = Unit {0}
+IsWhole ReadFault = ⊥
+IsWhole WriteFault = ⊥
+IsWhole Memory = ⊥
+
+abbrev pub EndsWhole : Result Status End → Type 0
+EndsWhole (Ok status) = IsWhole status
+EndsWhole (Err end) = Unit {0}
+
+-- a command that ends well is done or refused
+abbrev pub IsObeyed : Status → Type 0
+IsObeyed Done = Unit {0}
+IsObeyed BadWords = ⊥
+IsObeyed Refused = Unit {0}
+IsObeyed KeyShared = Unit {0}
+IsObeyed ReadFault = ⊥
+IsObeyed WriteFault = ⊥
+IsObeyed Memory = ⊥
+
+abbrev pub Obeys : Result Status End → Type 0
+Obeys (Ok status) = IsObeyed status
+Obeys (Err end) = Unit {0}

@@ -1,3 +1,4 @@
+pub mod ErrorLines
 pub mod Headline
 pub mod Outcome
 pub mod Words

@@ -1,22 +1,66 @@
 -- What the program writes and the status it ends with, for any words and files.
-use Rattle.std.specs.Prelude.{ℕ, List, codes, Option, None, Some}
+use Rattle.std.specs.Prelude.{ℕ, ◌++◌, List, [], codes, Bool, true, false, Option, None, Some, Result, Ok, Err}
 use Rattle.ent_io.specs.Files.{Files}
+use Rattle.ent_io.specs.Store.{whole_of}
 use Rattle.ent_io.specs.declared.end.Status.{Status}
-use Rattle.ent_io.specs.declared.end.Status.TheVariants.{BadWords, Refused}
-use Rattle.entsim.specs.Words.{Command, command_of}
+use Rattle.ent_io.specs.declared.end.Status.TheVariants.{Done, BadWords, Refused}
+use Rattle.ent_io.specs.declared.reading.Missing.{Missing}
+use Rattle.ent_io.specs.declared.reading.Missing.TheVariants.{Absent, TooLong}
+use Rattle.scenario_read.specs.declared.fault.BadScenario.{BadScenario}
+use Rattle.scenario_read.specs.declared.record.Scenario.{Scenario}
+use Rattle.scenario_read.specs.Reading.{scenario_of}
+use Rattle.plain_world.specs.Run.{world_after}
+use Rattle.plain_text.specs.Lines.{world_text}
+use Rattle.entsim.specs.ErrorLines.{missing_line, fault_line, unbuilt_line, words_line}
+use Rattle.entsim.specs.Words.{Command, run, check, layout, plan, dump, make, bench, command_of}
 
 -- a text and a status
 pub record Outcome : Type 0 where
   pub text : List ℕ
   pub status : Status
 
--- no command is built yet, so each is refused before anything is read
-abbrev pub command_outcome : Files → Command → Outcome
-command_outcome files command = record { text = codes "error scenario cause=NotBuilt\n"; status = Refused }
+-- a refusal with its line
+abbrev pub refused : List ℕ → Outcome
+refused line = record { text = line; status = Refused }
 
--- words that are no command are bad words
+-- the run of a scenario: the world after its frames
+unfoldable pub run_outcome : Scenario → Outcome
+run_outcome s = record { text = world_text s.registry s.frames (world_after s); status = Done }
+
+abbrev pub scenario_outcome : Result Scenario BadScenario → Outcome
+scenario_outcome (Ok s) = run_outcome s
+scenario_outcome (Err fault) = refused (fault_line fault)
+
+-- the run of what was read: at most 1 MiB
+abbrev pub read_outcome : Result (List ℕ) Missing → Outcome
+read_outcome (Ok bytes) = scenario_outcome (scenario_of bytes)
+read_outcome (Err missing) = refused (missing_line missing)
+
+abbrev pub file_outcome : Option (List ℕ) → Outcome
+file_outcome file = read_outcome (whole_of 1048576 file)
+
+-- a command that isn't built yet is refused before anything is read
+abbrev pub unbuilt : Outcome
+unbuilt = refused unbuilt_line
+
+-- the run of a file without options is built
+abbrev pub command_outcome : Files → Command → Outcome
+command_outcome files (run file None false) = file_outcome (files file)
+command_outcome files (run file None true) = unbuilt
+command_outcome files (run file (Some workers) trace) = unbuilt
+command_outcome files (check file) = unbuilt
+command_outcome files (layout file) = unbuilt
+command_outcome files (plan file) = unbuilt
+command_outcome files (dump scenario scene) = unbuilt
+command_outcome files (make number scene) = unbuilt
+command_outcome files (bench number workers) = unbuilt
+
+-- words that are no command
+abbrev pub bad_words : Outcome
+bad_words = record { text = words_line; status = BadWords }
+
 abbrev pub words_outcome : Files → Option Command → Outcome
-words_outcome files None = record { text = codes "error words\n"; status = BadWords }
+words_outcome files None = bad_words
 words_outcome files (Some command) = command_outcome files command
 
 -- the outcome of the words after the program's name, and the files that it finds

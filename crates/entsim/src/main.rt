@@ -1,6 +1,8 @@
 //! The program `entsim`: it reads the words after its name and the files of the current folder, and writes one text.
 #![tactic(auto)]
 
+mod refusal;
+mod run;
 #[cfg(test)]
 mod tests;
 mod top;

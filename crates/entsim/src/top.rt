@@ -1,29 +1,32 @@
 //! The top call: from the words and the files to the text and the status.
-ghost use Rattle.std.specs.Prelude.{◌≡◌, map, ◌⊎◌, string_bytes, IfSome, IfOk};
+ghost use Rattle.std.specs.Prelude.{◌≡◌, map, string_bytes, IfSome};
 ghost use Rattle.ent_io.specs.End.{Causes};
-ghost use Rattle.ent_io.specs.Files.{Files};
 ghost use Rattle.ent_io.specs.Status.{StatusCauses};
-ghost use Rattle.entsim.specs.Words.{command_of};
-ghost use Rattle.entsim.specs.Outcome.{outcome};
-ghost use Rattle.entsim.specs.Headline.{Gives, Ends, WordsDecide, AnswersWords};
+ghost use Rattle.entsim.specs.Words.{run, command_of, command_view};
+ghost use Rattle.entsim.specs.Outcome.{command_outcome, outcome, words_outcome};
+ghost use Rattle.entsim.specs.Headline.{Gives, Ends, EndsWhole, Obeys, WordsDecide, AnswersWords};
 
-use crate::words::read_words;
-use ent_io::{End, Gate, Sink, Status, Store, write_whole};
+use crate::refusal::{refuse_unbuilt, refuse_words};
+use crate::run::run_file;
+use crate::words::{Command, read_words};
+use ent_io::{End, Gate, Sink, Status, Store};
 use std::alloc::Global;
 use std::sync::Wait;
 use std::thread::Threads;
 
 /// Runs the command that the words name, over the files of the store, and writes its text to the sink.
 ///
-/// Whatever files are read, with any number of workers and in whatever order they claim blocks, the text written
-/// and the status are those of the outcome that the definitions give. No command is built yet: `BadWords` comes exactly
-/// where the words aren't a command, and else `Refused` with the cause NotBuilt, before anything is read.
+/// Whatever scenario files are read, with any number of workers and in whatever order they claim blocks, the text
+/// written and the status are those of the plain world. `run FILE` is built, for scenarios of the form that
+/// `docs/SCENARIO.md` describes; every other command is `Refused` with the cause NotBuilt before anything is read.
 ///
-/// `WriteFault` comes only where the sink failed: then a prefix of the text was written. The store isn't touched.
+/// `BadWords` comes exactly where the words aren't a command, and `Refused` exactly where the scenario's file is absent,
+/// longer than 1 MiB, not TOML or not of the form. `ReadFault` comes only where the store's count of faults rose in this
+/// call, and `WriteFault` only where the sink's did. With these two and `Memory` a prefix of the text was written.
 /// The words, the lines and the statuses are this project's own.
 pub fn entsim<R: Threads + Wait, S: Store, W: Sink, G: Gate>(
     _rt: &R,
-    _alloc: Global,
+    alloc: Global,
     words: &[String],
     store: &mut S,
     out: &mut W,
@@ -34,28 +37,74 @@ pub fn entsim<R: Threads + Wait, S: Store, W: Sink, G: Gate>(
     ensures causes { StatusCauses result (S.faults store.old) (S.faults store.new) (W.faults out.old) (W.faults out.new) }
     ensures files { S.files store.new ≡ S.files store.old }
 {
-    let _ = store;
-    match answer(words, out) {
+    match answer(alloc, words, store, out) {
         Ok(status) => status,
         Err(end) => Status::from(end),
     }
 }
 
-/// Refuses the command, or says that there is none.
-fn answer<W: Sink>(words: &[String], out: &mut W) -> Result<Status, End>
-    ensures gives { (files : Files) → Gives (outcome (map string_bytes words.now) files) result (W.text out.old) (W.text out.new) }
+/// Does what the words ask for, or says that they are no command.
+fn answer<S: Store, W: Sink>(
+    alloc: Global,
+    words: &[String],
+    store: &mut S,
+    out: &mut W,
+) -> Result<Status, End>
+    ensures gives { IfSome (S.files store.old) (λ files. Gives (words_outcome files (command_of (map string_bytes words.now))) result (W.text out.old) (W.text out.new)) }
     ensures words { AnswersWords (command_of (map string_bytes words.now)) result }
-    ensures causes { Causes result 0 0 (W.faults out.old) (W.faults out.new) }
-    ensures refused { IfOk result (λ status. (status ≡ Status.BadWords) ⊎ (status ≡ Status.Refused)) }
+    ensures whole { EndsWhole result }
+    ensures causes { Causes result (S.faults store.old) (S.faults store.new) (W.faults out.old) (W.faults out.new) }
+    ensures files { S.files store.new ≡ S.files store.old }
 {
     match read_words(words) {
-        None => {
-            write_whole(out, b"error words\n")?;
-            Ok(Status::BadWords)
-        }
-        Some(_) => {
-            write_whole(out, b"error scenario cause=NotBuilt\n")?;
-            Ok(Status::Refused)
-        }
+        None => refuse_words(out),
+        Some(command) => obey(alloc, command, store, out),
     }
+}
+
+/// Does what the command asks for.
+fn obey<S: Store, W: Sink>(
+    alloc: Global,
+    command: Command,
+    store: &mut S,
+    out: &mut W,
+) -> Result<Status, End>
+    ensures gives { IfSome (S.files store.old) (λ files. Gives (command_outcome files (command_view command.entry)) result (W.text out.old) (W.text out.new)) }
+    ensures obeys { Obeys result }
+    ensures causes { Causes result (S.faults store.old) (S.faults store.new) (W.faults out.old) (W.faults out.new) }
+    ensures files { S.files store.new ≡ S.files store.old }
+{
+    match command {
+        Command::Run {
+            file,
+            workers,
+            trace,
+        } => obey_run(alloc, file, workers, trace, store, out),
+        Command::Check { .. } => refuse_unbuilt(out),
+        Command::Layout { .. } => refuse_unbuilt(out),
+        Command::Plan { .. } => refuse_unbuilt(out),
+        Command::Dump { .. } => refuse_unbuilt(out),
+        Command::Make { .. } => refuse_unbuilt(out),
+        Command::Bench { .. } => refuse_unbuilt(out),
+    }
+}
+
+/// Runs a scenario. The options aren't built yet.
+fn obey_run<S: Store, W: Sink>(
+    alloc: Global,
+    file: &str,
+    workers: Option<u32>,
+    trace: bool,
+    store: &mut S,
+    out: &mut W,
+) -> Result<Status, End>
+    ensures gives { IfSome (S.files store.old) (λ files. Gives (command_outcome files (run file.now workers trace)) result (W.text out.old) (W.text out.new)) }
+    ensures obeys { Obeys result }
+    ensures causes { Causes result (S.faults store.old) (S.faults store.new) (W.faults out.old) (W.faults out.new) }
+    ensures files { S.files store.new ≡ S.files store.old }
+{
+    if workers.is_some() || trace {
+        return refuse_unbuilt(out);
+    }
+    run_file(alloc, file, store, out)
 }

@@ -5,6 +5,7 @@ mod assign;
 mod block;
 mod evaluation;
 mod frames;
+mod running;
 #[cfg(test)]
 mod tests;
 mod visiting;
@@ -13,5 +14,6 @@ mod world;
 pub use block::{PlainBlock, TypeColumns};
 pub use evaluation::evaluate;
 pub use frames::{run_frame, run_frames};
+pub use running::run_scenario;
 pub use visiting::visit;
 pub use world::{PlainWorld, raise, run_system};

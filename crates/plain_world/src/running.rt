@@ -1,0 +1,19 @@
+//! stub
+ghost use Rattle.std.specs.Prelude.{◌≡◌, IfOk};
+ghost use Rattle.scenario_read.specs.Formed.{IsOfForm};
+ghost use Rattle.plain_world.specs.Run.{world_after};
+ghost use Rattle.plain_world.specs.Plain.{world_of, AreEven};
+
+use crate::world::PlainWorld;
+use ent_types::Memory;
+use scenario_read::Scenario;
+use std::alloc::Global;
+
+/// The world after all frames.
+pub fn run_scenario(_alloc: Global, _scenario: &Scenario) -> Result<PlainWorld, Memory>
+    requires form { IsOfForm _scenario.now }
+    ensures world { IfOk result (λ w. world_of w ≡ world_after _scenario.now) }
+    ensures even { IfOk result (λ w. AreEven w.blocks.items) }
+{
+    Err(Memory)
+}
