@@ -6,32 +6,71 @@ use std::sync::Wait;
 use std::test::Fail;
 use std::thread::Threads;
 
-/// The status and the text of a list of words, where the sink's listed calls fail.
+/// The file `scenario`, where there is one, and the numbers of the calls that fail.
+#[derive(Clone, Copy)]
+struct Outside<'a> {
+    file: Option<&'a [u8]>,
+    reads: &'a [u64],
+    writes: &'a [u64],
+}
+
+/// No file, and no call fails.
+const EMPTY: Outside<'static> = Outside {
+    file: None,
+    reads: &[],
+    writes: &[],
+};
+
+const RUN: &[&str] = &["run", "scenario"];
+
+/// One entity that moves.
+const MOVING: &[u8] = br#"frames = 2
+type = [
+  { name = "Position", fields = ["x:i32", "y:i32"] },
+  { name = "Velocity", fields = ["x:i32", "y:i32"] },
+]
+spawn = [{ count = 1, with = { Position = [0, 0], Velocity = [1, 2] } }]
+[[system]]
+name = "Move"
+all = ["Position", "Velocity"]
+set = ["Position.x = Position.x + Velocity.x", "Position.y = Position.y + Velocity.y"]
+"#;
+
+/// The status and the text of a list of words.
 fn ended(
     rt: &(impl Threads + Wait),
     alloc: Global,
     words: &[&str],
-    failing: &[u64],
+    outside: &Outside,
 ) -> Result<(Status, Vec<u8>), Fail> {
     let mut list = Vec::new(alloc);
     for word in words {
         list.push(String::from_str(alloc, word)?)?;
     }
-    let mut store = MemoryStore::new(Vec::new(alloc), Vec::new(alloc));
-    let mut out = MemorySink::new(alloc, failing.to_vec(alloc)?);
+    let mut files = Vec::new(alloc);
+    if let Some(bytes) = outside.file {
+        files.push((String::from_str(alloc, "scenario")?, bytes.to_vec(alloc)?))?;
+    }
+    let mut store = MemoryStore::new(files, outside.reads.to_vec(alloc)?);
+    let mut out = MemorySink::new(alloc, outside.writes.to_vec(alloc)?);
     let status = entsim(rt, alloc, &list, &mut store, &mut out, &NoGate);
     Ok((status, out.text().to_vec(alloc)?))
 }
 
-// Words that are no command, and commands.
+// Words that are no command, and commands that aren't built.
 const NO_COMMANDS: [&[&str]; 3] = [&[], &["run"], &["check", "-"]];
 
-const COMMANDS: [&[&str]; 3] = [&["run", "f"], &["check", "f"], &["make", "7"]];
+const UNBUILT: [&[&str]; 4] = [
+    &["run", "scenario", "--trace"],
+    &["run", "scenario", "--workers", "1"],
+    &["check", "scenario"],
+    &["make", "7"],
+];
 
 #[test]
 fn refuses_what_is_no_command(rt: HostRuntime) -> Result<(), Fail> {
     for words in NO_COMMANDS {
-        let (status, text) = ended(&rt, rt.alloc(), words, &[])?;
+        let (status, text) = ended(&rt, rt.alloc(), words, &EMPTY)?;
         assert_eq!(rt; status, Status::BadWords);
         assert_eq!(rt; text.as_slice(), b"error words\n".as_slice());
     }
@@ -39,9 +78,14 @@ fn refuses_what_is_no_command(rt: HostRuntime) -> Result<(), Fail> {
 }
 
 #[test]
-fn refuses_what_is_not_built(rt: HostRuntime) -> Result<(), Fail> {
-    for words in COMMANDS {
-        let (status, text) = ended(&rt, rt.alloc(), words, &[])?;
+fn refuses_what_is_not_built_before_it_reads(rt: HostRuntime) -> Result<(), Fail> {
+    let failing = Outside {
+        file: None,
+        reads: &[1],
+        writes: &[],
+    };
+    for words in UNBUILT {
+        let (status, text) = ended(&rt, rt.alloc(), words, &failing)?;
         assert_eq!(rt; status, Status::Refused);
         assert_eq!(rt;
             text.as_slice(),
@@ -52,9 +96,95 @@ fn refuses_what_is_not_built(rt: HostRuntime) -> Result<(), Fail> {
 }
 
 #[test]
+fn runs_a_scenario(rt: HostRuntime) -> Result<(), Fail> {
+    let outside = Outside {
+        file: Some(MOVING),
+        reads: &[],
+        writes: &[],
+    };
+    let (status, text) = ended(&rt, rt.alloc(), RUN, &outside)?;
+    assert_eq!(rt; status, Status::Done);
+    assert_eq!(rt;
+        text.as_slice(),
+        b"world frames=2 entities=1\n0:1 Position(2,4) Velocity(1,2)\n".as_slice()
+    );
+    Ok(())
+}
+
+#[test]
+fn tells_a_failed_read(rt: HostRuntime) -> Result<(), Fail> {
+    for reads in [[1u64], [2]] {
+        let outside = Outside {
+            file: Some(MOVING),
+            reads: &reads,
+            writes: &[],
+        };
+        let (status, text) = ended(&rt, rt.alloc(), RUN, &outside)?;
+        assert_eq!(rt; status, Status::ReadFault);
+        assert_eq!(rt; text.as_slice(), [].as_slice());
+    }
+    Ok(())
+}
+
+#[test]
 fn tells_a_failed_write(rt: HostRuntime) -> Result<(), Fail> {
-    let (status, text) = ended(&rt, rt.alloc(), &["run", "f"], &[1])?;
-    assert_eq!(rt; status, Status::WriteFault);
-    assert_eq!(rt; text.as_slice(), [].as_slice());
+    let fronts: [(&[u64], &[u8]); 2] = [(&[1], b""), (&[2], b"world frames=2 entities=1\n")];
+    for (writes, front) in fronts {
+        let outside = Outside {
+            file: Some(MOVING),
+            reads: &[],
+            writes,
+        };
+        let (status, text) = ended(&rt, rt.alloc(), RUN, &outside)?;
+        assert_eq!(rt; status, Status::WriteFault);
+        assert_eq!(rt; text.as_slice(), front);
+    }
+    Ok(())
+}
+
+// Files that are refused, and the cause.
+const REFUSED: [(Option<&[u8]>, &[u8]); 4] = [
+    (None, b"error scenario cause=Absent\n"),
+    (Some(b"frames ="), b"error scenario cause=NotToml\n"),
+    (Some(b"\xff"), b"error scenario cause=NotToml\n"),
+    (
+        Some(b"frames = 1\nevent = []\n"),
+        b"error scenario cause=NotBuilt\n",
+    ),
+];
+
+#[test]
+fn refuses_a_scenario_with_its_cause(rt: HostRuntime) -> Result<(), Fail> {
+    for (file, line) in REFUSED {
+        let outside = Outside {
+            file,
+            reads: &[],
+            writes: &[],
+        };
+        let (status, text) = ended(&rt, rt.alloc(), RUN, &outside)?;
+        assert_eq!(rt; status, Status::Refused);
+        assert_eq!(rt; text.as_slice(), line);
+    }
+    Ok(())
+}
+
+#[test]
+fn takes_a_file_of_one_mebibyte_and_no_more(rt: HostRuntime) -> Result<(), Fail> {
+    let mut file = Vec::from_slice(rt.alloc(), b"frames = 0\n")?;
+    file.resize(1_048_576, b'#')?;
+    let lines: [&[u8]; 2] = [
+        b"world frames=0 entities=0\n",
+        b"error scenario cause=TooLong\n",
+    ];
+    for line in lines {
+        let outside = Outside {
+            file: Some(&file),
+            reads: &[],
+            writes: &[],
+        };
+        let (_, text) = ended(&rt, rt.alloc(), RUN, &outside)?;
+        assert_eq!(rt; text.as_slice(), line);
+        file.push(b'#')?;
+    }
     Ok(())
 }
