@@ -1,2 +1,5 @@
 //! The lines that a run prints.
 #![tactic(auto)]
+
+mod line;
+mod places;
