@@ -1,5 +1,5 @@
 -- Where the row of each index is, and its line.
-use Rattle.std.specs.Prelude.{ℕ, ◌≡◌, ◌<◌, nat_eq, List, [], length, map, slice_get, slice_index_or, Option, None, Some, find}
+use Rattle.std.specs.Prelude.{ℕ, ◌≡◌, ◌<◌, nat_eq, List, [], length, map, slice_get, slice_index_or, slice_set, if◌then◌else◌, is_none, Option, None, Some, find}
 use Rattle.ent_types.specs.declared.type_info.TypeInfo.{TypeInfo}
 use Rattle.world_model.specs.Row.{Row}
 use Rattle.world_model.specs.World.{Block}
@@ -40,3 +40,7 @@ line_of registry (Some row) = row_line registry row
 -- the line of the first row with this index
 abbrev pub line_at : List TypeInfo → List PlainBlock → ℕ → List ℕ
 line_at registry blocks index = line_of registry (first_row index (all_rows blocks))
+
+-- the places with one noted for an index that is among them and has none
+abbrev pub noted : List (Option Place) → ℕ → Place → List (Option Place)
+noted places index place = if is_none (slice_index_or places index (Some place)) then slice_set places index (Some place) else places
