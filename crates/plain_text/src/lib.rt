@@ -3,3 +3,9 @@
 
 mod line;
 mod places;
+mod world;
+
+pub use world::write_world;
+
+#[cfg(test)]
+mod tests;

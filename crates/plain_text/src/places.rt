@@ -2,9 +2,8 @@
 ghost use Rattle.std.specs.Prelude.{◌≡◌, ◌+◌, ◌<◌, length, take, IfOk, OnOk};
 ghost use Rattle.plain_text.specs.Places.{TellEach, all_rows, noted};
 
-use ent_types::Memory;
 use plain_world::PlainBlock;
-use std::alloc::Global;
+use std::alloc::{AllocError, Global};
 
 /// Where a row is. It is kept for each index, so it is small.
 #[derive(Clone, Copy, Debug)]
@@ -30,17 +29,17 @@ fn note_block(
     places: &mut [Option<Place>],
     blocks: &[PlainBlock],
     number: usize,
-) -> Result<(), Memory>
+) -> Result<(), AllocError>
     requires within { number < length blocks.now }
     requires told { TellEach blocks.now (all_rows (take number blocks.now)) places.old }
     ensures told { OnOk result (TellEach blocks.now (all_rows (take (number + 1) blocks.now)) places.new) }
 {
     let Ok(block) = u32::try_from(number) else {
-        return Err(Memory);
+        return Err(AllocError);
     };
     let entities = &blocks[number].entities;
     if entities.len() > u32::MAX as usize {
-        return Err(Memory);
+        return Err(AllocError);
     }
     for (row, index) in entities.iter().enumerate() {
         note(places, *index, Place { block, row: row as u32 });
@@ -49,12 +48,12 @@ fn note_block(
 }
 
 /// Where the row of each index below `made` is: the first one where there are more. It goes once over all rows.
-/// `Memory` also comes where a block or a row has no number of 32 bits.
+/// A block or a row without a number of 32 bits also is want of memory.
 pub(crate) fn places_of(
     alloc: Global,
     blocks: &[PlainBlock],
     made: u32,
-) -> Result<Vec<Option<Place>>, Memory>
+) -> Result<Vec<Option<Place>>, AllocError>
     ensures length { IfOk result (λ places. length places.items ≡ made) }
     ensures told { IfOk result (λ places. TellEach blocks.now (all_rows blocks.now) places.items) }
 {
