@@ -1,5 +1,5 @@
 -- What is appended to a line is the line's text.
-use Rattle.std.proofs.Common.{ℕ, ℤ, ◌≡◌, ◌+◌, ◌<◌, List, [], ◌∷◌, ◌++◌, map, codes, Vec, refl, sym, ap, ◌∙◌, subst, append_assoc, lit<, pos, length, get_or, arith}
+use Rattle.std.proofs.Common.{ℕ, ℤ, ◌≡◌, ◌<◌, List, [], ◌∷◌, ◌++◌, map, codes, Vec, refl, sym, ap, ◌∙◌, subst, append_assoc, lit<, pos, length, get_or, arith}
 use Rattle.std.proofs.lemmas.List.{append-nil, get_or_read}
 use Rattle.std.proofs.lemmas.Fmt.{decimal_digit}
 use Rattle.std.specs.List.{All, flat_map, join_with_byte}
@@ -67,5 +67,5 @@ world_line-pieces frames entities a b c d e f p q r s t =
     let tail : f ≡ d ++ (decimal entities ++ codes "\n") = then_piece d e f (decimal entities) (codes "\n") s t in
     let middle : f ≡ c ++ (codes " entities=" ++ (decimal entities ++ codes "\n")) = then_piece c d f (codes " entities=") (decimal entities ++ codes "\n") r tail in
     let rest : f ≡ b ++ (decimal frames ++ (codes " entities=" ++ (decimal entities ++ codes "\n"))) =
-        then_piece b c f (decimal frames) (codes " entities=" ++ (decimal entities ++ codes "\n")) q middle in
+    then_piece b c f (decimal frames) (codes " entities=" ++ (decimal entities ++ codes "\n")) q middle in
     then_piece a b f (codes "world frames=") (decimal frames ++ (codes " entities=" ++ (decimal entities ++ codes "\n"))) p rest

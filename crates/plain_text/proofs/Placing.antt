@@ -1,5 +1,5 @@
 -- The places of the rows seen so far, with one row more.
-use Rattle.std.proofs.Common.{ℕ, zero, suc, ◌≡◌, ◌≢◌, ◌+◌, ◌<◌, ◌≤◌, ◌⊎◌, inl, inr, Bool, true, false, cond, eqb, nat_eq, List, [], ◌∷◌, ◌++◌, length, map, get_or, take, slice_get, Option, None, Some, is_none, refl, sym, ap, ◌∙◌, subst, append_assoc, arith}
+use Rattle.std.proofs.Common.{ℕ, ◌≡◌, ◌≢◌, ◌+◌, ◌<◌, ◌≤◌, inl, inr, Bool, true, false, cond, nat_eq, List, [], ◌∷◌, ◌++◌, length, get_or, take, slice_get, Option, None, Some, is_none, refl, sym, ap, ◌∙◌, subst, append_assoc, arith}
 use Rattle.std.proofs.Math.ListN.{set}
 use Rattle.std.specs.Option.{option_or}
 use Rattle.std.proofs.lemmas.Bool.Decides.{eqb_tells}
@@ -8,7 +8,7 @@ use Rattle.std.proofs.lemmas.Option.{get_or_from_slice_get, slice_get_within}
 use Rattle.std.proofs.lemmas.List.Folds.{find-append}
 use Rattle.world_model.specs.Row.{Row}
 use Rattle.plain_world.specs.declared.block.PlainBlock.{PlainBlock}
-use Rattle.plain_world.specs.Plain.{Part, block_of, parts_of, row_at, rows_from}
+use Rattle.plain_world.specs.Plain.{Part, parts_of, row_at, rows_from}
 use Rattle.plain_text.specs.declared.places.Place.{Place}
 use Rattle.plain_text.specs.Places.{Tells, TellEach, IsPlaceOf, first_row, all_rows, noted}
 
@@ -66,10 +66,10 @@ module _ (blocks : List PlainBlock) (rows : List Row) (place : Place) (b : Plain
     there = there;
     within = within;
     first =
-      first-more i
-      ∙ ap (λ (o : Option Row). option_or o (cond (nat_eq e i) (Some next) None)) none
-      ∙ ap (λ t. cond t (Some next) None) test
-      ∙ ap (λ n. Some (row_at (parts_of b.parts.items) place.row n)) same;
+        first-more i
+        ∙ ap (λ (o : Option Row). option_or o (cond (nat_eq e i) (Some next) None)) none
+        ∙ ap (λ t. cond t (Some next) None) test
+        ∙ ap (λ n. Some (row_at (parts_of b.parts.items) place.row n)) same;
   }
   told_here i (Some old) same test is = kept i old is
 
@@ -83,9 +83,10 @@ module _ (blocks : List PlainBlock) (rows : List Row) (place : Place) (b : Plain
   pub tell_more : (places : List (Option Place)) → TellEach blocks rows places → TellEach blocks (rows ++ next ∷ []) (noted places e place)
   tell_more places tell i bound =
       let low : i < length places = subst (λ n. i < n) (length-noted places e place) bound in
-      elim (eqb_tells e i)
-      [ inl same ↦ subst (Tells blocks (rows ++ next ∷ []) i) (sym (noted_here places e place i low same.1)) (told_here i (get_or places i None) same.1 same.0 (tell i low))
-      | inr apart ↦ subst (Tells blocks (rows ++ next ∷ []) i) (sym (noted_elsewhere places e place i apart.1)) (told_elsewhere i (get_or places i None) apart.0 (tell i low)) ]
+      elim (eqb_tells e i) [
+        | inl same ↦ subst (Tells blocks (rows ++ next ∷ []) i) (sym (noted_here places e place i low same.1)) (told_here i (get_or places i None) same.1 same.0 (tell i low))
+        | inr apart ↦ subst (Tells blocks (rows ++ next ∷ []) i) (sym (noted_elsewhere places e place i apart.1)) (told_elsewhere i (get_or places i None) apart.0 (tell i low))
+      ]
 
 -- ---- one block
 
@@ -117,10 +118,10 @@ module _ (blocks : List PlainBlock) (number : ℕ) where
       let low : place.row < length b.entities.items = subst (λ (l : List ℕ). place.row < length l) same within in
       let e : ℕ = get_or b.entities.items place.row 0 in
       let more : seen b place.row ++ row_at (parts_of b.parts.items) place.row e ∷ [] ≡ seen b (place.row + 1) =
-          append_assoc (all_rows (take number blocks)) (rows_from (parts_of b.parts.items) 0 (take place.row b.entities.items)) (row_at (parts_of b.parts.items) place.row e ∷ [])
-          ∙ ap (λ (l : List Row). all_rows (take number blocks) ++ l) (sym (rows_from-more (parts_of b.parts.items) b.entities.items place.row low)) in
+      append_assoc (all_rows (take number blocks)) (rows_from (parts_of b.parts.items) 0 (take place.row b.entities.items)) (row_at (parts_of b.parts.items) place.row e ∷ [])
+      ∙ ap (λ (l : List Row). all_rows (take number blocks) ++ l) (sym (rows_from-more (parts_of b.parts.items) b.entities.items place.row low)) in
       let after : TellEach blocks (seen b place.row ++ row_at (parts_of b.parts.items) place.row e ∷ []) (noted places e place) =
-          tell_more blocks (seen b place.row) place b e (subst (λ n. slice_get blocks n ≡ Some b) (sym at) there) low places tell in
+      tell_more blocks (seen b place.row) place b e (subst (λ n. slice_get blocks n ≡ Some b) (sym at) there) low places tell in
       subst (λ (l : List ℕ). TellEach blocks (seen b (place.row + 1)) (noted places (get_or l place.row 0) place)) (sym same)
       (subst (λ (rows : List Row). TellEach blocks rows (noted places e place)) more after)
 
@@ -137,9 +138,9 @@ module _ (blocks : List PlainBlock) (number : ℕ) where
       let same : items ≡ b.entities.items = items_of b r items there is in
       let high : length b.entities.items ≤ row = subst (λ (l : List ℕ). length l ≤ row) same past in
       let all : seen b row ≡ all_rows (take (number + 1) blocks) =
-          ap (λ (es : List ℕ). all_rows (take number blocks) ++ rows_from (parts_of b.parts.items) 0 es) (take_all row b.entities.items high)
-          ∙ sym (all_rows-push (take number blocks) b)
-          ∙ ap all_rows
-            (ap (λ (x : PlainBlock). take number blocks ++ x ∷ []) (sym (get_or_from_slice_get blocks number b b there))
-            ∙ sym (take_more blocks number b (slice_get_within blocks number b there))) in
+      ap (λ (es : List ℕ). all_rows (take number blocks) ++ rows_from (parts_of b.parts.items) 0 es) (take_all row b.entities.items high)
+      ∙ sym (all_rows-push (take number blocks) b)
+      ∙ ap all_rows
+      (ap (λ (x : PlainBlock). take number blocks ++ x ∷ []) (sym (get_or_from_slice_get blocks number b b there))
+      ∙ sym (take_more blocks number b (slice_get_within blocks number b there))) in
       subst (λ (rows : List Row). TellEach blocks rows places) all tell

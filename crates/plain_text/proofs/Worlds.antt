@@ -1,5 +1,5 @@
 -- The rows of a world in columns: their number, and their lines by index.
-use Rattle.std.proofs.Common.{ℕ, ◌≡◌, ◌+◌, ◌<◌, List, [], ◌∷◌, ◌++◌, length, map, get_or, slice_get, sum_by, fold, take, Option, None, Some, Result, Ok, Err, ◌≤◌, refl, sym, ap, ◌∙◌, subst, arith, pos}
+use Rattle.std.proofs.Common.{ℕ, ◌≡◌, ◌+◌, ◌<◌, List, [], ◌∷◌, ◌++◌, length, map, get_or, slice_get, sum_by, fold, take, Option, None, Some, Result, Ok, Err, ◌≤◌, refl, sym, ap, ◌∙◌, subst, arith}
 use Rattle.std.specs.Prelude.{Vec, ℤ}
 use Rattle.std.specs.List.{All, flat_map, filter_map, cons_option, range_with_len}
 use Rattle.std.specs.declared.alloc.Global.{Global}
@@ -92,7 +92,7 @@ pub world_text-by_index : (registry : List TypeInfo) (frames entities n : ℕ) (
 unfolding world_text
 world_text-by_index registry frames entities n w blocks is counted made =
     ap (λ (bs : List PlainBlock). world_line frames (sum_by (λ b. length b.rows) (map block_of bs))
-      ++ flat_map (row_line registry) (filter_map (row_with_index (map block_of bs)) (range_with_len 0 w.made))) (sym is)
+    ++ flat_map (row_line registry) (filter_map (row_with_index (map block_of bs)) (range_with_len 0 w.made))) (sym is)
     ∙ ap (λ k. world_line frames k ++ flat_map (row_line registry) (filter_map (row_with_index (map block_of blocks)) (range_with_len 0 w.made))) (sym counted)
     ∙ ap (λ (l : List ℕ). world_line frames entities ++ l) (flat_map-filter_map registry (row_with_index (map block_of blocks)) (range_with_len 0 w.made))
     ∙ ap (λ k. world_line frames entities ++ flat_map (line_at registry blocks) (range_with_len 0 k)) (sym made)

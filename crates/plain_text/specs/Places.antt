@@ -2,7 +2,6 @@
 use Rattle.std.specs.Prelude.{ℕ, ◌≡◌, ◌<◌, nat_eq, List, [], length, map, slice_get, slice_index_or, slice_set, if◌then◌else◌, is_none, Option, None, Some, find}
 use Rattle.ent_types.specs.declared.type_info.TypeInfo.{TypeInfo}
 use Rattle.world_model.specs.Row.{Row}
-use Rattle.world_model.specs.World.{Block}
 use Rattle.plain_world.specs.declared.block.PlainBlock.{PlainBlock}
 use Rattle.plain_world.specs.Plain.{block_of, parts_of, row_at}
 use Rattle.plain_text.specs.declared.places.Place.{Place}

@@ -117,11 +117,7 @@ pub(crate) fn push_row(
 }
 
 /// Appends the line before the rows.
-pub(crate) fn push_head(
-    line: &mut Vec<u8>,
-    frames: u32,
-    entities: usize,
-) -> Result<(), AllocError>
+pub(crate) fn push_head(line: &mut Vec<u8>, frames: u32, entities: usize) -> Result<(), AllocError>
     ensures { OnOk result (line.new.items ≡ line.old.items ++ world_line frames entities) }
 {
     line.extend_from_slice(b"world frames=")?;

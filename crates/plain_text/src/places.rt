@@ -42,7 +42,14 @@ fn note_block(
         return Err(AllocError);
     }
     for (row, index) in entities.iter().enumerate() {
-        note(places, *index, Place { block, row: row as u32 });
+        note(
+            places,
+            *index,
+            Place {
+                block,
+                row: row as u32,
+            },
+        );
     }
     Ok(())
 }

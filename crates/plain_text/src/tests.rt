@@ -10,7 +10,9 @@ use std::alloc::{AllocError, Global};
 use std::test::Fail;
 
 const POSITION: TypeId = TypeId(3);
+
 const VELOCITY: TypeId = TypeId(4);
+
 const FROZEN: TypeId = TypeId(5);
 
 /// Adds a type with these fields, a tag where there are none.
@@ -29,7 +31,11 @@ fn declare(
     }
     let info = TypeInfo {
         name: Name::of(name).ok_or("a name")?,
-        kind: if fields.len() == 0 { Kind::Tag } else { Kind::Plain },
+        kind: if fields.len() == 0 {
+            Kind::Tag
+        } else {
+            Kind::Plain
+        },
         fields: infos,
         enableable: false,
     };

@@ -1,4 +1,4 @@
-use Rattle.std.proofs.Common.{◌≡◌, ◌<◌, slice_get, Some, refl}
+use Rattle.std.proofs.Common.{◌≡◌, slice_get, Some, refl}
 use Rattle.std.proofs.lemmas.Option.{slice_get_read}
 use Rattle.plain_text.proofs.Placing.{no_row_yet, row_noted, block_noted}
 use Rattle.plain_text.proofs.places.note_block.Goals as goal

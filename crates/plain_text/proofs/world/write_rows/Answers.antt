@@ -1,4 +1,4 @@
-use Rattle.std.proofs.Common.{ℕ, List, length, refl, ◌∙◌}
+use Rattle.std.proofs.Common.{length, refl, ◌∙◌}
 use Rattle.std.specs.List.{range_with_len}
 use Rattle.ent_io.proofs.Exits.{exit_writes}
 use Rattle.ent_io.proofs.LineLoop.{lines_more, lines_all, prefix_in_line}
