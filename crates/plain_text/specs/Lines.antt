@@ -1,5 +1,5 @@
 -- The lines that a run prints. A line ends with one line feed.
-use Rattle.std.specs.Prelude.{ℕ, ◌+◌, ◌&&◌, Bool, if◌then◌else◌, nat_eq, List, [], ◌∷◌, ◌++◌, codes, map, Option, find}
+use Rattle.std.specs.Prelude.{ℕ, ◌&&◌, if◌then◌else◌, nat_eq, List, [], ◌∷◌, ◌++◌, codes, map, Option, find}
 use Rattle.std.specs.List.{flat_map, filter_map, range_with_len, join_with_byte}
 use Rattle.std.specs.Fmt.{decimal, signed_decimal}
 use Rattle.ent_types.specs.declared.entity.Entity.{Entity}
