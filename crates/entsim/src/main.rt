@@ -4,13 +4,16 @@
 mod refusal;
 mod run;
 #[cfg(test)]
+mod run_tests;
+#[cfg(test)]
 mod tests;
 mod top;
 mod words;
 
 use ent_io::{FolderStore, NoGate, SinkEnd, Status, StdSink};
+use std::env::{self, Env};
+use std::io;
 use std::process::ExitCode;
-use std::{env, io};
 
 /// The number that the program ends with.
 fn number(status: Status) -> u8 {
@@ -33,8 +36,19 @@ fn settled(status: Status, handed: Result<(), SinkEnd>) -> Status {
     }
 }
 
+/// The words after the program's name. A word that isn't UTF-8 is in no command, so such a list is read as none at all.
+fn read_args<R: Env + AllocGlobal>(rt: &R) -> io::Result<Vec<String>> {
+    match env::args(rt) {
+        Ok(all) => Ok(all.skip(1).collect::<Vec<String>>(rt.alloc())?),
+        Err(error) if error.kind() == io::ErrorKind::InvalidData => Ok(Vec::new(rt.alloc())),
+        Err(error) => Err(error),
+    }
+}
+
 fn main(rt: HostRuntime) -> io::Result<ExitCode> {
-    let words = env::args(&rt)?.skip(1).collect::<Vec<String>>(rt.alloc())?;
+    let Ok(words) = read_args(&rt) else {
+        return Ok(ExitCode::from(number(Status::Memory)));
+    };
     let mut store = FolderStore::new(&rt, rt.alloc());
     let Ok(mut out) = StdSink::new(rt.alloc(), io::writer(&rt)) else {
         return Ok(ExitCode::from(number(Status::Memory)));

@@ -8,10 +8,10 @@ use std::thread::Threads;
 
 /// The file `scenario`, where there is one, and the numbers of the calls that fail.
 #[derive(Clone, Copy)]
-struct Outside<'a> {
-    file: Option<&'a [u8]>,
-    reads: &'a [u64],
-    writes: &'a [u64],
+pub(crate) struct Outside<'a> {
+    pub(crate) file: Option<&'a [u8]>,
+    pub(crate) reads: &'a [u64],
+    pub(crate) writes: &'a [u64],
 }
 
 /// No file, and no call fails.
@@ -21,7 +21,7 @@ const EMPTY: Outside<'static> = Outside {
     writes: &[],
 };
 
-const RUN: &[&str] = &["run", "scenario"];
+pub(crate) const RUN: &[&str] = &["run", "scenario"];
 
 /// One entity that moves.
 const MOVING: &[u8] = br#"frames = 2
@@ -37,7 +37,7 @@ set = ["Position.x = Position.x + Velocity.x", "Position.y = Position.y + Veloci
 "#;
 
 /// The status and the text of a list of words.
-fn ended(
+pub(crate) fn ended(
     rt: &(impl Threads + Wait),
     alloc: Global,
     words: &[&str],

@@ -20,8 +20,8 @@ use std::thread::Threads;
 /// written and the status are those of the plain world. `run FILE` is built, for scenarios of the form that
 /// `docs/SCENARIO.md` describes; every other command is `Refused` with the cause NotBuilt before anything is read.
 ///
-/// `BadWords` comes exactly where the words aren't a command, and `Refused` exactly where the scenario's file is absent,
-/// longer than 1 MiB, not TOML or not of the form. `ReadFault` comes only where the store's count of faults rose in this
+/// `BadWords` comes exactly where the words aren't a command. For `run FILE`, `Refused` comes exactly where the file is
+/// absent, longer than 1 MiB, not TOML or not of the form. `ReadFault` comes only where the store's count of faults rose in this
 /// call, and `WriteFault` only where the sink's did. With these two and `Memory` a prefix of the text was written.
 /// The words, the lines and the statuses are this project's own.
 pub fn entsim<R: Threads + Wait, S: Store, W: Sink, G: Gate>(
