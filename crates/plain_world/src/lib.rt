@@ -5,7 +5,6 @@ mod assign;
 mod block;
 mod evaluation;
 mod frames;
-mod running;
 #[cfg(test)]
 mod tests;
 mod visiting;
@@ -14,6 +13,5 @@ mod world;
 pub use block::{PlainBlock, TypeColumns};
 pub use evaluation::evaluate;
 pub use frames::{run_frame, run_frames};
-pub use running::run_scenario;
 pub use visiting::visit;
 pub use world::{PlainWorld, raise, run_system};

@@ -1,13 +1,11 @@
 -- The scenario that the bytes of a file are, or its first fault.
-use Rattle.std.specs.Prelude.{ℕ, ◌≡◌, List, [], Option, None, Some, Result, Ok, Err, if◌then◌else◌}
+use Rattle.std.specs.Prelude.{ℕ, List, [], Option, None, Some, Result, Ok, Err, if◌then◌else◌}
 use Rattle.std.specs.Str.{is_utf8}
 use Rattle.toml.specs.Data.{Members}
 use Rattle.toml.specs.Parse.{parse_document}
 use Rattle.scenario_read.specs.declared.fault.Cause.{Cause}
 use Rattle.scenario_read.specs.declared.fault.Cause.TheVariants.{NotToml, NotBuilt}
 use Rattle.scenario_read.specs.declared.fault.BadScenario.{BadScenario}
-use Rattle.scenario_read.specs.declared.fault.ScenarioFault.{ScenarioFault}
-use Rattle.scenario_read.specs.declared.fault.ScenarioFault.TheVariants.{Bad, Memory}
 use Rattle.scenario_read.specs.declared.record.Scenario.{Scenario}
 use Rattle.scenario_read.specs.Form.{scenario_form}
 
@@ -30,9 +28,3 @@ read_document (Some ms) = formed (scenario_form ms)
 
 unfoldable pub scenario_of : List ℕ → Result Scenario BadScenario
 scenario_of bytes = read_document (document_of bytes)
-
--- what a reader answers: the scenario or its first fault, as given; want of memory alone is free
-abbrev pub Reads : Result Scenario BadScenario → Result Scenario ScenarioFault → Type 0
-Reads given (Ok s) = given ≡ Ok s
-Reads given (Err (Bad b)) = given ≡ Err b
-Reads given (Err Memory) = Unit {0}

@@ -2,11 +2,9 @@
 #![tactic(auto)]
 
 mod fault;
-mod reader;
 mod record;
 
 pub use fault::{BadScenario, Cause, KeyPath, ScenarioFault};
-pub use reader::read_scenario;
 pub use record::{
     CommandEntry, EventAct, EventEntry, FileName, GroupEntry, Scenario, SpawnEntry, SystemEntry,
 };
