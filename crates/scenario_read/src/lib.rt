@@ -2,7 +2,12 @@
 #![tactic(auto)]
 
 mod fault;
+mod keys;
 mod record;
+mod refusal;
+mod spawns;
+mod systems;
+mod types;
 
 pub use fault::{BadScenario, Cause, KeyPath, ScenarioFault};
 pub use record::{
