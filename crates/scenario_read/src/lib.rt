@@ -3,13 +3,16 @@
 
 mod fault;
 mod keys;
+mod reader;
 mod record;
 mod refusal;
 mod spawns;
 mod systems;
 mod types;
+mod whole;
 
 pub use fault::{BadScenario, Cause, KeyPath, ScenarioFault};
+pub use reader::read_scenario;
 pub use record::{
     CommandEntry, EventAct, EventEntry, FileName, GroupEntry, Scenario, SpawnEntry, SystemEntry,
 };

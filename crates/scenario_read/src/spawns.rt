@@ -19,8 +19,8 @@ use toml::{Table, Value};
 /// The number of types that no scenario declares.
 const BUILT_IN_TYPES: usize = 3;
 
-/// The greatest number of entities that a spawn makes.
-const MOST_ENTITIES: u32 = 1_048_576;
+/// The greatest number of entities that a spawn makes, and that all make together.
+pub(crate) const MOST_ENTITIES: u32 = 1_048_576;
 
 /// The greatest number of parts of a spawn.
 const MOST_PARTS: usize = 256;
