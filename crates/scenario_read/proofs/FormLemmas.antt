@@ -1,10 +1,10 @@
 -- What each scenario of the form that is run keeps to.
-use Rattle.std.proofs.Common.{ℕ, ◌≡◌, ◌≤◌, ◌&&◌, List, [], ◌∷◌, ◌++◌, Bool, true, cond, length, Option, None, Some, Result, Ok, Err, codes, All, pos, refl, subst, arith}
+use Rattle.std.proofs.Common.{ℕ, ◌≡◌, ◌≤◌, ◌&&◌, List, [], ◌∷◌, ◌++◌, true, cond, length, Option, None, Some, Ok, codes, All, pos, refl, subst, arith}
 use Rattle.std.specs.Prelude.{nat_le, map, sum_by, option_map, option_and_then}
 use Rattle.std.proofs.lemmas.Bool.{leb-true, and_parts}
 use Rattle.std.proofs.lemmas.List.Elements.{All-nil, All-cons}
 use Rattle.std.proofs.lemmas.Option.{same_Some, none-some, cond_some, option_and_then_some}
-use Rattle.toml.specs.Data.{Data, string, integer, float, boolean, datetime, array, table, Items, no_items, item, Members, get_member}
+use Rattle.toml.specs.Data.{Data, integer, array, table, Items, no_items, item, Members, get_member}
 use Rattle.ent_types.specs.declared.type_info.TypeInfo.{TypeInfo}
 use Rattle.ent_types.specs.Types.{are_distinct}
 use Rattle.ent_types.specs.Registries.{built_in_types}

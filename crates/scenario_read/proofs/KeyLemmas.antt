@@ -1,5 +1,5 @@
 -- Values of a document and the keys of its tables, beside what the definitions see.
-use Rattle.std.proofs.Common.{ℕ, ◌≡◌, ◌&&◌, ◌||◌, ◌+◌, List, [], ◌∷◌, Bool, length, map, Option, None, Some, String, Global, Bor, string_bytes, refl, sym, ap, ◌∙◌, arith}
+use Rattle.std.proofs.Common.{ℕ, ◌≡◌, List, [], ◌∷◌, length, map, Option, None, Some, String, Global, Bor, string_bytes, refl, sym, arith}
 use Rattle.std.specs.Prelude.{MatchOption, option_map}
 use Rattle.std.specs.List.{list_any, list_all}
 use Rattle.std.specs.Map.{keys_of}

@@ -1,10 +1,9 @@
 -- Numbers and parts that are read one after the other.
-use Rattle.std.proofs.Common.{ℕ, ℤ, ◌≡◌, ◌≤◌, ◌+◌, ◌&&◌, List, [], ◌∷◌, Bool, true, false, cond, length, leb, Option, None, Some, String, Global, refl, sym, ap, ◌∙◌, arith}
+use Rattle.std.proofs.Common.{ℤ, ◌≡◌, List, [], ◌∷◌, Bool, true, false, cond, length, Option, None, Some, refl, sym, ap, ◌∙◌, arith}
 use Rattle.std.specs.Prelude.{nat_le, option_map, option_and_then}
-use Rattle.std.proofs.lemmas.Option.{same_Some, none-some}
-use Rattle.toml.specs.Data.{Data, string, integer, float, boolean, datetime, array, table, Items, no_items, item, Members, no_members, member}
-use Rattle.toml.specs.View.{view, items_view, members_view}
-use Rattle.toml.specs.declared.value.Value.{Value}
+use Rattle.std.proofs.lemmas.Option.{same_Some}
+use Rattle.toml.specs.Data.{Data, integer, table, Items, no_items, item, Members, no_members, member}
+use Rattle.toml.specs.View.{members_view}
 use Rattle.ent_types.specs.declared.type_info.FieldInfo.{FieldInfo}
 use Rattle.ent_types.specs.declared.type_info.TypeInfo.{TypeInfo}
 use Rattle.ent_types.specs.declared.value.Value.TheVariants.{Int}

@@ -1,10 +1,10 @@
 -- Types that are read one after the other.
-use Rattle.std.proofs.Common.{ℕ, ◌≡◌, ◌≤◌, ◌<◌, ◌+◌, ◌&&◌, List, [], ◌∷◌, ◌++◌, Bool, true, false, cond, length, leb, ltb, Option, None, Some, is_some, is_none, codes, refl, sym, ap, ◌∙◌, arith, length-append}
-use Rattle.std.specs.Prelude.{nat_le, nat_lt, option_map, option_and_then}
+use Rattle.std.proofs.Common.{ℕ, ◌≡◌, ◌≤◌, ◌<◌, ◌+◌, ◌&&◌, List, [], ◌∷◌, ◌++◌, true, length, Option, None, Some, is_none, codes, refl, ap, ◌∙◌, arith, length-append}
+use Rattle.std.specs.Prelude.{nat_le, option_and_then}
 use Rattle.std.proofs.lemmas.Bool.{and_parts, lt-leb}
 use Rattle.std.proofs.lemmas.Bool.Decides.{nat_tests}
 use Rattle.std.proofs.lemmas.Option.{same_Some, none-some, cond_some, option_and_then_some}
-use Rattle.toml.specs.Data.{Data, string, integer, float, boolean, datetime, array, table, Items, no_items, item, Members, get_member}
+use Rattle.toml.specs.Data.{Data, array, table, Items, no_items, item, get_member}
 use Rattle.ent_types.specs.declared.type_info.FieldInfo.{FieldInfo}
 use Rattle.ent_types.specs.declared.type_info.TypeInfo.{TypeInfo}
 use Rattle.ent_types.specs.Types.{is_lawful_type}

@@ -1,5 +1,5 @@
 -- The names of systems.
-use Rattle.std.proofs.Common.{ℕ, ◌≡◌, ◌+◌, ◌-◌, ◌<◌, List, [], ◌∷◌, ◌++◌, Bool, not, ◌&&◌, suc, length, get_or, drop, take, map, codes, refl, ap, add-one, drop-cons}
+use Rattle.std.proofs.Common.{ℕ, ◌≡◌, ◌+◌, ◌-◌, ◌<◌, List, ◌++◌, Bool, not, ◌&&◌, suc, length, get_or, drop, take, map, codes, refl, ap, add-one, drop-cons}
 use Rattle.std.specs.List.{list_any}
 use Rattle.std.proofs.lemmas.List.{take_rest}
 use Rattle.ent_types.specs.Types.{same_name, are_distinct}

@@ -8,6 +8,8 @@ mod record;
 mod refusal;
 mod spawns;
 mod systems;
+#[cfg(test)]
+mod tests;
 mod types;
 mod whole;
 

@@ -85,7 +85,11 @@ fn number_for(kind: FieldKind, value: &Value) -> Result<i64, Refusal>
 
 /// One number for each field.
 #[tactic(auto, using(crate::proofs::SpawnLemmas::numbers))]
-fn numbers_for(alloc: Global, fields: &[FieldInfo], values: &[Value]) -> Result<Sequence<ValueExpr>, Refusal>
+fn numbers_for(
+    alloc: Global,
+    fields: &[FieldInfo],
+    values: &[Value],
+) -> Result<Sequence<ValueExpr>, Refusal>
     ensures { Reads (numbers_for fields.now (items_view values.now)) result }
 {
     if fields.len() != values.len() {
@@ -99,7 +103,11 @@ fn numbers_for(alloc: Global, fields: &[FieldInfo], values: &[Value]) -> Result<
     Ok(numbers)
 }
 
-fn read_values(alloc: Global, fields: &[FieldInfo], value: &Value) -> Result<Sequence<ValueExpr>, Refusal>
+fn read_values(
+    alloc: Global,
+    fields: &[FieldInfo],
+    value: &Value,
+) -> Result<Sequence<ValueExpr>, Refusal>
     ensures { Reads (read_values fields.now (view value.now)) result }
 {
     match list_in(value) {
@@ -108,7 +116,12 @@ fn read_values(alloc: Global, fields: &[FieldInfo], value: &Value) -> Result<Seq
     }
 }
 
-fn part_of(alloc: Global, registry: &Registry, ty: TypeId, value: &Value) -> Result<PartExpr, Refusal>
+fn part_of(
+    alloc: Global,
+    registry: &Registry,
+    ty: TypeId,
+    value: &Value,
+) -> Result<PartExpr, Refusal>
     requires { ty.0 < length registry.now }
     ensures { Reads (option_map (λ vs. record { ty = ty; values = vs }) (read_values (type_at registry.now ty.0).fields (view value.now))) result }
 {
@@ -116,7 +129,12 @@ fn part_of(alloc: Global, registry: &Registry, ty: TypeId, value: &Value) -> Res
     Ok(PartExpr { ty, values })
 }
 
-fn read_part(alloc: Global, registry: &Registry, name: &str, value: &Value) -> Result<PartExpr, Refusal>
+fn read_part(
+    alloc: Global,
+    registry: &Registry,
+    name: &str,
+    value: &Value,
+) -> Result<PartExpr, Refusal>
     ensures { Reads (read_part registry.now name.now (view value.now)) result }
 {
     match declared(registry, name) {
@@ -125,7 +143,11 @@ fn read_part(alloc: Global, registry: &Registry, name: &str, value: &Value) -> R
     }
 }
 
-fn each_part(alloc: Global, registry: &Registry, table: &Table) -> Result<Sequence<PartExpr>, Refusal>
+fn each_part(
+    alloc: Global,
+    registry: &Registry,
+    table: &Table,
+) -> Result<Sequence<PartExpr>, Refusal>
     ensures { Reads (read_parts registry.now (table_view table.now)) result }
 {
     let mut parts = Sequence::new(alloc);
@@ -137,7 +159,11 @@ fn each_part(alloc: Global, registry: &Registry, table: &Table) -> Result<Sequen
 }
 
 #[tactic(auto, using(crate::proofs::SpawnLemmas::parts))]
-fn parts_in(alloc: Global, registry: &Registry, table: &Table) -> Result<Sequence<PartExpr>, Refusal>
+fn parts_in(
+    alloc: Global,
+    registry: &Registry,
+    table: &Table,
+) -> Result<Sequence<PartExpr>, Refusal>
     ensures { Reads (read_with registry.now (table_of (table_view table.now))) result }
 {
     if table.len() > MOST_PARTS {
@@ -146,7 +172,11 @@ fn parts_in(alloc: Global, registry: &Registry, table: &Table) -> Result<Sequenc
     each_part(alloc, registry, table)
 }
 
-fn read_with(alloc: Global, registry: &Registry, value: &Value) -> Result<Sequence<PartExpr>, Refusal>
+fn read_with(
+    alloc: Global,
+    registry: &Registry,
+    value: &Value,
+) -> Result<Sequence<PartExpr>, Refusal>
     ensures { Reads (read_with registry.now (view value.now)) result }
 {
     match table_in(value) {
@@ -155,7 +185,11 @@ fn read_with(alloc: Global, registry: &Registry, value: &Value) -> Result<Sequen
     }
 }
 
-fn parts_of(alloc: Global, registry: &Registry, table: &Table) -> Result<Sequence<PartExpr>, Refusal>
+fn parts_of(
+    alloc: Global,
+    registry: &Registry,
+    table: &Table,
+) -> Result<Sequence<PartExpr>, Refusal>
     ensures { Reads (optional (codes "with") [] (read_with registry.now) (table_view table.now)) result }
 {
     match value_of(table, "with") {
@@ -197,7 +231,11 @@ fn read_spawn(alloc: Global, registry: &Registry, value: &Value) -> Result<Spawn
     }
 }
 
-fn each_spawn(alloc: Global, registry: &Registry, values: &[Value]) -> Result<Sequence<SpawnEntry>, Refusal>
+fn each_spawn(
+    alloc: Global,
+    registry: &Registry,
+    values: &[Value],
+) -> Result<Sequence<SpawnEntry>, Refusal>
     ensures { Reads (each_item (read_spawn registry.now) (items_view values.now)) result }
 {
     let mut spawns = Sequence::new(alloc);
@@ -208,7 +246,11 @@ fn each_spawn(alloc: Global, registry: &Registry, values: &[Value]) -> Result<Se
     Ok(spawns)
 }
 
-fn read_spawns(alloc: Global, registry: &Registry, value: &Value) -> Result<Sequence<SpawnEntry>, Refusal>
+fn read_spawns(
+    alloc: Global,
+    registry: &Registry,
+    value: &Value,
+) -> Result<Sequence<SpawnEntry>, Refusal>
     ensures { Reads (list_between 0 1024 (each_item (read_spawn registry.now)) (view value.now)) result }
 {
     match elements(0, MOST_SPAWNS, value) {
@@ -218,7 +260,11 @@ fn read_spawns(alloc: Global, registry: &Registry, value: &Value) -> Result<Sequ
 }
 
 /// What is made before the first frame, under the key `spawn`.
-pub(crate) fn spawns_of(alloc: Global, registry: &Registry, table: &Table) -> Result<Sequence<SpawnEntry>, Refusal>
+pub(crate) fn spawns_of(
+    alloc: Global,
+    registry: &Registry,
+    table: &Table,
+) -> Result<Sequence<SpawnEntry>, Refusal>
     ensures { Reads (optional (codes "spawn") [] (list_between 0 1024 (each_item (read_spawn registry.now))) (table_view table.now)) result }
 {
     match value_of(table, "spawn") {

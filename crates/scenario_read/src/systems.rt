@@ -69,7 +69,12 @@ fn all_of(registry: &Registry, table: &Table) -> Result<TypeSet, Refusal>
     }
 }
 
-fn assign_in(alloc: Global, registry: &Registry, all: &TypeSet, text: &str) -> Result<Assign, Refusal>
+fn assign_in(
+    alloc: Global,
+    registry: &Registry,
+    all: &TypeSet,
+    text: &str,
+) -> Result<Assign, Refusal>
     ensures { Reads (read_assign registry.now all.now (string text.now)) result }
 {
     match read_chain(alloc, text, registry, all)? {
@@ -78,7 +83,12 @@ fn assign_in(alloc: Global, registry: &Registry, all: &TypeSet, text: &str) -> R
     }
 }
 
-fn read_assign(alloc: Global, registry: &Registry, all: &TypeSet, value: &Value) -> Result<Assign, Refusal>
+fn read_assign(
+    alloc: Global,
+    registry: &Registry,
+    all: &TypeSet,
+    value: &Value,
+) -> Result<Assign, Refusal>
     ensures { Reads (read_assign registry.now all.now (view value.now)) result }
 {
     match text_in(value) {
@@ -87,7 +97,12 @@ fn read_assign(alloc: Global, registry: &Registry, all: &TypeSet, value: &Value)
     }
 }
 
-fn each_assign(alloc: Global, registry: &Registry, all: &TypeSet, values: &[Value]) -> Result<Sequence<Assign>, Refusal>
+fn each_assign(
+    alloc: Global,
+    registry: &Registry,
+    all: &TypeSet,
+    values: &[Value],
+) -> Result<Sequence<Assign>, Refusal>
     ensures { Reads (each_item (read_assign registry.now all.now) (items_view values.now)) result }
 {
     let mut assigns = Sequence::new(alloc);
@@ -98,7 +113,12 @@ fn each_assign(alloc: Global, registry: &Registry, all: &TypeSet, values: &[Valu
     Ok(assigns)
 }
 
-fn read_assigns(alloc: Global, registry: &Registry, all: &TypeSet, value: &Value) -> Result<Sequence<Assign>, Refusal>
+fn read_assigns(
+    alloc: Global,
+    registry: &Registry,
+    all: &TypeSet,
+    value: &Value,
+) -> Result<Sequence<Assign>, Refusal>
     ensures { Reads (list_between 0 64 (each_item (read_assign registry.now all.now)) (view value.now)) result }
 {
     match elements(0, MOST_ASSIGNS, value) {
@@ -107,7 +127,12 @@ fn read_assigns(alloc: Global, registry: &Registry, all: &TypeSet, value: &Value
     }
 }
 
-fn assigns_of(alloc: Global, registry: &Registry, all: &TypeSet, table: &Table) -> Result<Sequence<Assign>, Refusal>
+fn assigns_of(
+    alloc: Global,
+    registry: &Registry,
+    all: &TypeSet,
+    table: &Table,
+) -> Result<Sequence<Assign>, Refusal>
     ensures { Reads (optional (codes "set") [] (list_between 0 64 (each_item (read_assign registry.now all.now))) (table_view table.now)) result }
 {
     match value_of(table, "set") {
@@ -117,7 +142,13 @@ fn assigns_of(alloc: Global, registry: &Registry, all: &TypeSet, table: &Table) 
 }
 
 /// A system of these types and assignments, and else with the defaults.
-fn plain_system(alloc: Global, group: Name, name: Name, all: TypeSet, set: Sequence<Assign>) -> SystemEntry
+fn plain_system(
+    alloc: Global,
+    group: Name,
+    name: Name,
+    all: TypeSet,
+    set: Sequence<Assign>,
+) -> SystemEntry
     requires { group ≡ codes "Simulation" }
     ensures { result ≡ plain_system name all set }
 {
@@ -176,7 +207,11 @@ fn read_system(alloc: Global, registry: &Registry, value: &Value) -> Result<Syst
     }
 }
 
-fn each_system(alloc: Global, registry: &Registry, values: &[Value]) -> Result<Sequence<SystemEntry>, Refusal>
+fn each_system(
+    alloc: Global,
+    registry: &Registry,
+    values: &[Value],
+) -> Result<Sequence<SystemEntry>, Refusal>
     ensures { Reads (each_item (read_system registry.now) (items_view values.now)) result }
 {
     let mut systems = Sequence::new(alloc);
@@ -187,7 +222,11 @@ fn each_system(alloc: Global, registry: &Registry, values: &[Value]) -> Result<S
     Ok(systems)
 }
 
-fn read_systems(alloc: Global, registry: &Registry, value: &Value) -> Result<Sequence<SystemEntry>, Refusal>
+fn read_systems(
+    alloc: Global,
+    registry: &Registry,
+    value: &Value,
+) -> Result<Sequence<SystemEntry>, Refusal>
     ensures { Reads (list_between 0 256 (each_item (read_system registry.now)) (view value.now)) result }
 {
     match elements(0, MOST_SYSTEMS, value) {
@@ -197,7 +236,11 @@ fn read_systems(alloc: Global, registry: &Registry, value: &Value) -> Result<Seq
 }
 
 /// The systems of a scenario, under the key `system`.
-pub(crate) fn systems_of(alloc: Global, registry: &Registry, table: &Table) -> Result<Sequence<SystemEntry>, Refusal>
+pub(crate) fn systems_of(
+    alloc: Global,
+    registry: &Registry,
+    table: &Table,
+) -> Result<Sequence<SystemEntry>, Refusal>
     ensures { Reads (optional (codes "system") [] (list_between 0 256 (each_item (read_system registry.now))) (table_view table.now)) result }
 {
     match value_of(table, "system") {

@@ -11,7 +11,9 @@ ghost use Rattle.scenario_read.specs.Reads.{Reads};
 
 use crate::keys::{elements, name_of, only_keys, table_in, text_in, value_of};
 use crate::refusal::Refusal;
-use ent_types::{FieldInfo, FieldKind, Kind, Memory, Name, Registry, RegistryFault, Sequence, TypeInfo};
+use ent_types::{
+    FieldInfo, FieldKind, Kind, Memory, Name, Registry, RegistryFault, Sequence, TypeInfo,
+};
 use std::alloc::Global;
 use toml::{Table, Value};
 
@@ -84,7 +86,11 @@ fn fields_of(alloc: Global, table: &Table) -> Result<Sequence<FieldInfo>, Refusa
 }
 
 /// The type with this name and these fields, where it is well formed and its name is new.
-fn new_type(registry: &Registry, name: Name, fields: Sequence<FieldInfo>) -> Result<TypeInfo, Refusal>
+fn new_type(
+    registry: &Registry,
+    name: Name,
+    fields: Sequence<FieldInfo>,
+) -> Result<TypeInfo, Refusal>
     ensures { Reads (new_type registry.now name fields) result }
 {
     let info = TypeInfo {

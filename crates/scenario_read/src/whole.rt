@@ -79,7 +79,12 @@ fn is_whole(scenario: &Scenario) -> bool
     fit_together(scenario.spawn.as_slice())
 }
 
-fn read_whole(alloc: Global, registry: Registry, frames: u32, table: &Table) -> Result<Scenario, Refusal>
+fn read_whole(
+    alloc: Global,
+    registry: Registry,
+    frames: u32,
+    table: &Table,
+) -> Result<Scenario, Refusal>
     ensures { Reads (read_whole registry frames (table_view table.now)) result }
 {
     let spawn = spawns_of(alloc, &registry, table)?;

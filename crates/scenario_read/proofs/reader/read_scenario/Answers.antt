@@ -1,7 +1,5 @@
-use Rattle.std.proofs.Common.{◌≡◌, Err, refl, sym, subst}
-use Rattle.scenario_read.specs.declared.fault.Cause.TheVariants.{NotToml}
-use Rattle.scenario_read.specs.Reading.{whole_fault, scenario_of}
-use Rattle.scenario_read.specs.Faults.{IsDue}
+use Rattle.std.proofs.Common.{refl}
+use Rattle.scenario_read.specs.Reading.{scenario_of}
 use Rattle.scenario_read.proofs.ReaderLemmas.{answer_to, ok_from_answer, fault_from_answer, form_from_answer, due_no_text}
 use Rattle.scenario_read.proofs.reader.read_scenario.Goals as goal
 

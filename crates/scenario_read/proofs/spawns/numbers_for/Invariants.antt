@@ -1,4 +1,4 @@
-use Rattle.std.proofs.Common.{◌≡◌, drop, length}
+use Rattle.std.proofs.Common.{◌≡◌, drop}
 use Rattle.toml.specs.View.{items_view}
 use Rattle.scenario_read.specs.Form.{numbers_for}
 use Rattle.scenario_read.proofs.ListLemmas.{onto}

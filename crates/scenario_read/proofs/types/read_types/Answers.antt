@@ -1,4 +1,4 @@
-use Rattle.std.proofs.Common.{◌≡◌, ◌∙◌, ◌<◌, length, ap, arith}
+use Rattle.std.proofs.Common.{◌≡◌, ◌∙◌, length, ap, arith}
 use Rattle.toml.specs.View.{view, items_view}
 use Rattle.ent_types.specs.Registries.{built_in_types}
 use Rattle.scenario_read.specs.Form.{read_types}

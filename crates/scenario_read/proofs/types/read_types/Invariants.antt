@@ -8,5 +8,5 @@ abbrev pub invariant-loop-value : goal.invariant-loop-value
 invariant-loop-value l =
     record {
       left : read_types l.registry (items_view (drop l.value-index l.values)) ≡ read_types built_in_types (items_view l.values);
-      count : length l.registry ≡ 3 + l.value-index
+      count : length l.registry ≡ 3 + l.value-index;
     }

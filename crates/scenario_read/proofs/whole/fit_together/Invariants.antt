@@ -6,5 +6,5 @@ abbrev pub invariant-loop-spawn : goal.invariant-loop-spawn
 invariant-loop-spawn l =
     record {
       left : l.total + sum_by (λ p. p.count) (drop l.spawn-index l.spawns) ≡ sum_by (λ p. p.count) l.spawns;
-      few : l.total ≤ 1048576
+      few : l.total ≤ 1048576;
     }
