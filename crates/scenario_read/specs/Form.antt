@@ -1,10 +1,8 @@
 -- Which documents are scenarios of the form that is run, and the record of each. What isn't of the form is None.
-use Rattle.std.specs.Prelude.{ℕ, ℤ, pos, negsuc, ◌+◌, ◌-◌, Bool, true, false, not, ◌&&◌, nat_le, nat_lt, nat_eq, if◌then◌else◌, List, [], ◌∷◌, ◌++◌, length, take, drop, map, codes, sum_by, Option, None, Some, is_none, option_and_then, option_map}
-use Rattle.std.specs.List.{list_any, list_all}
+use Rattle.std.specs.Prelude.{ℕ, pos, ◌-◌, Bool, true, false, ◌&&◌, nat_le, if◌then◌else◌, List, [], ◌∷◌, ◌++◌, length, take, drop, map, codes, sum_by, Option, None, Some, is_none, option_and_then, option_map}
+use Rattle.std.specs.List.{list_any}
 use Rattle.toml.specs.Data.{Data, string, integer, array, table, Items, no_items, item, Members, no_members, member, get_member, as_str}
-use Rattle.ent_types.specs.declared.entity.TypeId.{TypeId}
 use Rattle.ent_types.specs.declared.kinds.Kind.TheVariants.{Plain}
-use Rattle.ent_types.specs.declared.kinds.FieldKind.{FieldKind}
 use Rattle.ent_types.specs.declared.kinds.FieldKind.TheVariants.{I32, I64}
 use Rattle.ent_types.specs.declared.type_info.FieldInfo.{FieldInfo}
 use Rattle.ent_types.specs.declared.type_info.TypeInfo.{TypeInfo}
@@ -14,7 +12,6 @@ use Rattle.ent_types.specs.Types.{same_name, are_distinct, is_lawful_type}
 use Rattle.ent_types.specs.Fitting.{fits_field}
 use Rattle.ent_types.specs.Registries.{type_named, type_at, built_in_types}
 use Rattle.ent_types.specs.TypeSets.{has_type, with_type}
-use Rattle.expr_read.specs.declared.tree.Expr.{Expr}
 use Rattle.expr_read.specs.declared.tree.Expr.TheVariants.{Number}
 use Rattle.expr_read.specs.declared.tree.ValueExpr.{ValueExpr}
 use Rattle.expr_read.specs.declared.tree.ValueExpr.TheVariants.{Int as IntExpr}

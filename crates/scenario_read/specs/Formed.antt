@@ -1,5 +1,5 @@
 -- What each scenario of the form that is run keeps to.
-use Rattle.std.specs.Prelude.{ℕ, ◌≡◌, ◌≤◌, length, sum_by, All}
+use Rattle.std.specs.Prelude.{◌≡◌, ◌≤◌, length, sum_by, All}
 use Rattle.scenario_read.specs.declared.record.Scenario.{Scenario}
 
 pub record IsOfForm (s : Scenario) : Type 0 where

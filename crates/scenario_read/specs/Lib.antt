@@ -1,3 +1,5 @@
+pub mod Faults
 pub mod Form
 pub mod Formed
 pub mod Reading
+pub mod Reads

@@ -2,9 +2,19 @@
 #![tactic(auto)]
 
 mod fault;
+mod keys;
+mod reader;
 mod record;
+mod refusal;
+mod spawns;
+mod systems;
+#[cfg(test)]
+mod tests;
+mod types;
+mod whole;
 
 pub use fault::{BadScenario, Cause, KeyPath, ScenarioFault};
+pub use reader::read_scenario;
 pub use record::{
     CommandEntry, EventAct, EventEntry, FileName, GroupEntry, Scenario, SpawnEntry, SystemEntry,
 };
