@@ -3,3 +3,7 @@ pub mod Assigns
 pub mod Visits
 pub mod Evens
 pub mod FrameSteps
+pub mod NewCells
+pub mod RowPut
+pub mod Rooms
+pub mod Wides

@@ -32,7 +32,7 @@ pub fn column(parts: &[TypeColumns], ty: TypeId, field: u8) -> Option<&[i64]>
 }
 
 /// A sum or a difference, wrapped to 64 bits.
-fn combine(op: BinaryOp, left: i64, right: i64) -> i64
+pub fn combine(op: BinaryOp, left: i64, right: i64) -> i64
     ensures { result ≡ combined op left right }
 {
     match op {

@@ -1,0 +1,28 @@
+use Rattle.std.proofs.Common.{◌≡◌, ◌<◌, ℤ, pos, List, ◌++◌, ◌∷◌, [], map, length, refl, ap, sym, ◌∙◌, add-one, arith, get_or}
+use Rattle.std.proofs.lemmas.Int.{to_z-of_z}
+use Rattle.std.proofs.lemmas.List.{map-set, length-map, length-set, get_or_default}
+use Rattle.std.proofs.Math.ListN.{get_or-map, set}
+use Rattle.std.specs.declared.vec.Vec.{Vec}
+use Rattle.plain_world.specs.NewRows.{with_numbers}
+use Rattle.plain_world.proofs.RowPut.{with_numbers_none, with_numbers_more}
+use Rattle.plain_world.proofs.pushing.push_numbers.Goals as goal
+
+pub loop-i-init : goal.loop-i-init
+loop-i-init c = (sym (with_numbers_none _), refl)
+
+pub loop-i-preserved : goal.loop-i-preserved
+loop-i-preserved c =
+    let columns = c.loop-i.columns.items in
+    let column = c.index_mut.result.now in
+    let first = map (λ v. v.items) c.args.columns.now.items in
+    let numbers = c.args.numbers.now in
+    let number = get_or numbers c.loop-i.i (pos 0) in
+    let put : c.push.new.self.items ≡ column.items ++ number ∷ [] = grind (arith, to_z-of_z, c.in_ok-push.ensures.items) in
+    let within : c.loop-i.i < length first = simp length-map (omega arith) in
+    let found = ap (λ v. v.items) c.index_mut.ensures.value ∙ sym (get_or-map (λ v. v.items) columns c.loop-i.i column) in (
+      map-set (λ v. v.items) columns c.loop-i.i c.push.new.self
+          ∙ rw (put, c.loop-i.invariant.0, add-one)
+          (with_numbers_more first numbers c.loop-i.i column.items number within c.loop-i-test.true (rw c.loop-i.invariant.0 at found)
+          (get_or_default numbers c.loop-i.i (pos 0) number c.loop-i-test.true)),
+      length-set columns c.loop-i.i c.push.new.self ∙ c.loop-i.invariant.1,
+    )
