@@ -1,6 +1,6 @@
 //! What is made before the first frame.
-ghost use Rattle.std.specs.Prelude.{◌≡◌, ◌<◌, ◌≤◌, [], ◌∷◌, codes, length, option_map, MatchOption, IfSome};
-ghost use Rattle.toml.specs.Data.{integer, table as table_of, array};
+ghost use Rattle.std.specs.Prelude.{◌≡◌, ◌<◌, ◌≤◌, [], codes, length, option_map, MatchOption, IfSome};
+ghost use Rattle.toml.specs.Data.{integer, table as table_of};
 ghost use Rattle.toml.specs.View.{view, items_view, table_view};
 ghost use Rattle.ent_types.specs.declared.value.Value.TheVariants.{Int};
 ghost use Rattle.ent_types.specs.Fitting.{fits_field};
@@ -28,7 +28,7 @@ const MOST_PARTS: usize = 256;
 /// The greatest number of spawns.
 const MOST_SPAWNS: usize = 1024;
 
-/// The place of the type with this name. The text may be no name.
+/// The place of the type with this name, among the few that a scenario has. The text may be no name.
 #[tactic(auto, unfolding(ent_types::specs::Registries::type_named))]
 fn type_named(registry: &Registry, name: &str) -> Option<usize>
     ensures place { result ≡ type_named registry.now name.now }

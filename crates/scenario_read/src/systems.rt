@@ -1,5 +1,5 @@
 //! Systems, as a scenario declares them.
-ghost use Rattle.std.specs.Prelude.{◌≡◌, ◌<◌, [], ◌∷◌, codes, length, option_and_then, MatchOption, None, Some};
+ghost use Rattle.std.specs.Prelude.{◌≡◌, ◌<◌, [], codes, option_and_then, MatchOption, None, Some};
 ghost use Rattle.toml.specs.Data.{as_str, string, table as table_of};
 ghost use Rattle.toml.specs.View.{view, items_view, table_view};
 ghost use Rattle.scenario_read.specs.Form.{optional, each_item, list_between, declared, read_all_from, read_all, read_assign, plain_system, read_system};

@@ -1,12 +1,12 @@
 //! Types, as a scenario declares them.
-ghost use Rattle.std.specs.Prelude.{◌≡◌, ◌<◌, ◌≤◌, [], ◌∷◌, ◌++◌, codes, length, option_map, None, IfOk, IsTrue, OnOk};
+ghost use Rattle.std.specs.Prelude.{◌≡◌, ◌≤◌, [], ◌∷◌, ◌++◌, codes, length, option_map, None, IsTrue, OnOk};
 ghost use Rattle.toml.specs.Data.{table as table_of};
 ghost use Rattle.toml.specs.View.{view, items_view, table_view};
 ghost use Rattle.ent_types.specs.Names.{name_of};
 ghost use Rattle.ent_types.specs.Types.{is_lawful_type};
 ghost use Rattle.ent_types.specs.Refusals.{refusal};
 ghost use Rattle.ent_types.specs.Registries.{built_in_types};
-ghost use Rattle.scenario_read.specs.Form.{required, optional, each_item, list_between, read_name, field_of, read_field, new_type, read_type, read_types, read_registry};
+ghost use Rattle.scenario_read.specs.Form.{required, optional, each_item, list_between, field_of, read_field, new_type, read_type, read_types, read_registry};
 ghost use Rattle.scenario_read.specs.Reads.{Reads};
 
 use crate::keys::{elements, name_of, only_keys, table_in, text_in, value_of};

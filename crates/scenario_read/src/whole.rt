@@ -1,5 +1,5 @@
 //! A whole scenario: its keys, and what its parts keep to together.
-ghost use Rattle.std.specs.Prelude.{◌≡◌, [], ◌∷◌, ◌++◌, codes, map, nat_le, sum_by};
+ghost use Rattle.std.specs.Prelude.{◌≡◌, ◌++◌, codes, map, nat_le, sum_by};
 ghost use Rattle.std.specs.List.{list_any};
 ghost use Rattle.toml.specs.View.{table_view};
 ghost use Rattle.ent_types.specs.Types.{same_name, are_distinct};
