@@ -1,14 +1,14 @@
 -- Another column in the place of a field's, as it is put in, and as the rows see it.
-use Rattle.std.proofs.Common.{ℕ, zero, suc, ◌≡◌, ◌+◌, ◌<◌, ℤ, pos, Bool, true, false, List, [], ◌∷◌, ◌++◌, length, map, take, drop, cond, nat_eq, slice_set, get_or, refl, sym, ap, ◌∙◌, subst, arith, add-zero, zero-add}
+use Rattle.std.proofs.Common.{ℕ, zero, suc, ◌≡◌, ◌+◌, ◌<◌, ℤ, Bool, true, false, List, [], ◌∷◌, ◌++◌, length, map, take, drop, cond, nat_eq, slice_set, get_or, refl, sym, ap, ◌∙◌, arith}
 use Rattle.std.proofs.Math.ListN.{set}
 use Rattle.std.proofs.lemmas.List.{map-set}
 use Rattle.ent_types.specs.declared.type_info.TypeInfo.{TypeInfo}
 use Rattle.ent_types.specs.declared.value.Value.{Value}
 use Rattle.ent_types.specs.declared.value.Value.TheVariants.{Int}
 use Rattle.expr_read.specs.declared.tree.Assign.{Assign}
-use Rattle.world_model.specs.Row.{Row, Cell, map_cell}
+use Rattle.world_model.specs.Row.{Cell, map_cell}
 use Rattle.plain_world.specs.Run.{assigned, kept_number, kind_at}
-use Rattle.plain_world.specs.Plain.{Part, cell_at, row_at, rows_from, number_at, with_column, AreLong, IsEven, types_in, mark_in}
+use Rattle.plain_world.specs.Plain.{Part, cell_at, row_at, rows_from, number_at, with_column, AreLong, IsEven, mark_in}
 use Rattle.plain_world.specs.Evaluated.{Holds, seen_at, DoesAssign}
 
 module _ (t field : ℕ) (c : List ℤ) where

@@ -1,11 +1,9 @@
 -- What a row that is kept in columns has in its fields.
-use Rattle.std.proofs.Common.{ℕ, zero, suc, ◌≡◌, ◌+◌, ◌<◌, ℤ, pos, Bool, true, false, List, [], ◌∷◌, length, map, take, drop, cond, nat_eq, slice_get, slice_set, get_or, Option, None, Some, option_map, unwrap_or, refl, sym, ap, ◌∙◌, subst, add-one, drop-cons, arith}
+use Rattle.std.proofs.Common.{ℕ, zero, suc, ◌≡◌, ℤ, pos, Bool, true, false, List, [], ◌∷◌, length, map, cond, nat_eq, slice_get, Option, None, Some, option_map, unwrap_or, refl, sym, ap, ◌∙◌}
 use Rattle.std.proofs.lemmas.Option.{slice_get-map}
-use Rattle.ent_types.specs.declared.value.Value.{Value}
 use Rattle.ent_types.specs.declared.value.Value.TheVariants.{Int}
-use Rattle.world_model.specs.Row.{Row, Cell, field_at, values_at, map_cell, with_field}
-use Rattle.plain_world.specs.declared.block.TypeColumns.{TypeColumns}
-use Rattle.plain_world.specs.Plain.{Part, part_of, parts_of, cell_at, row_at, number_at, column_at, with_column, AreLong, IsEven}
+use Rattle.world_model.specs.Row.{field_at, values_at}
+use Rattle.plain_world.specs.Plain.{Part, cell_at, row_at, number_at, column_at, AreLong, IsEven}
 use Rattle.plain_world.specs.Chain.{Seen, value, number_in}
 use Rattle.plain_world.specs.Evaluated.{own_number, Holds, seen_at}
 use Rattle.ent_types.specs.declared.entity.TypeId.{TypeId}

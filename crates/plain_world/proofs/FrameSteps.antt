@@ -1,5 +1,5 @@
 -- A frame as the fold of its steps, and one frame more.
-use Rattle.std.proofs.Common.{ℕ, zero, suc, ◌≡◌, ◌+◌, List, [], ◌∷◌, ◌++◌, map, refl, sym, ap, ◌∙◌, add-one}
+use Rattle.std.proofs.Common.{ℕ, zero, suc, ◌≡◌, ◌+◌, List, [], ◌∷◌, map, refl, ap, ◌∙◌, add-one}
 use Rattle.std.specs.List.{fold}
 use Rattle.std.proofs.lemmas.List.Sums.{fold-append}
 use Rattle.ent_types.specs.declared.point.Point.TheVariants.{EndSimulation, BeginPresentation}
@@ -7,7 +7,7 @@ use Rattle.ent_types.specs.declared.type_info.TypeInfo.{TypeInfo}
 use Rattle.scenario_read.specs.declared.record.Scenario.{Scenario}
 use Rattle.scenario_read.specs.declared.record.SystemEntry.{SystemEntry}
 use Rattle.world_model.specs.World.{World}
-use Rattle.plain_world.specs.Run.{Step, run, play, stepped, raised, ran, framed, times}
+use Rattle.plain_world.specs.Run.{run, play, stepped, raised, ran, framed, times}
 
 fold-run : (registry : List TypeInfo) (w : World) (systems : List SystemEntry) → fold (stepped registry) w (map run systems) ≡ fold (ran registry) w systems
 fold-run registry w [] = refl

@@ -1,5 +1,5 @@
 -- The first block that has room, and how a row enters there.
-use Rattle.std.proofs.Common.{ℕ, zero, suc, ◌≡◌, ◌+◌, ◌<◌, ◌≤◌, Bool, true, false, ◌&&◌, List, [], ◌∷◌, ◌++◌, length, map, cond, nat_eq, nat_lt, get_or, refl, sym, ap, ◌∙◌, arith}
+use Rattle.std.proofs.Common.{ℕ, zero, suc, ◌≡◌, ◌+◌, ◌<◌, ◌≤◌, Bool, true, false, ◌&&◌, List, [], ◌∷◌, ◌++◌, length, cond, nat_eq, nat_lt, get_or, refl, sym, ap, ◌∙◌, arith}
 use Rattle.std.specs.Cmp.Lexicographic.{pointwise}
 use Rattle.std.proofs.Math.ListN.{set}
 use Rattle.std.proofs.lemmas.Bool.{le-ltb, lt-ltb, and_parts}
@@ -7,7 +7,7 @@ use Rattle.world_model.specs.Row.{Row, Cell}
 use Rattle.world_model.specs.World.{Block, Home}
 use Rattle.world_model.specs.Enter.{enter, entered, new_block, same_home, same_shared}
 use Rattle.plain_world.specs.Run.{home_of}
-use Rattle.plain_world.specs.Plain.{Part, row_at, rows_from, types_in, block_from}
+use Rattle.plain_world.specs.Plain.{Part, rows_from, types_in, block_from}
 use Rattle.plain_world.specs.NewRows.{types_of, has_room, room_place}
 
 pub length-rows : (ps : List Part) (place : ℕ) (es : List ℕ) → length (rows_from ps place es) ≡ length es

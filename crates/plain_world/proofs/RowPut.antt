@@ -1,9 +1,9 @@
 -- A row put at the end of a block's columns, and the block as the model has it.
-use Rattle.std.proofs.Common.{ℕ, zero, suc, ◌≡◌, ◌+◌, ◌<◌, ◌≤◌, ℤ, pos, false, List, [], ◌∷◌, ◌++◌, length, map, take, get_or, refl, sym, ap, ◌∙◌, add-one, arith}
+use Rattle.std.proofs.Common.{ℕ, zero, suc, ◌≡◌, ◌+◌, ◌<◌, ℤ, pos, false, List, [], ◌∷◌, ◌++◌, length, map, take, get_or, refl, sym, ap, ◌∙◌, arith}
 use Rattle.std.proofs.Math.ListN.{set}
 use Rattle.std.proofs.lemmas.List.{get_or_append_left, get_or_push, length_push}
 use Rattle.ent_types.specs.declared.value.Value.TheVariants.{Int}
-use Rattle.world_model.specs.Row.{Row, Cell}
+use Rattle.world_model.specs.Row.{Row}
 use Rattle.world_model.specs.World.{Block, Mark}
 use Rattle.world_model.specs.Enter.{entered, marks_at}
 use Rattle.plain_world.specs.declared.cells.NewCell.{NewCell}

@@ -1,5 +1,5 @@
 -- What a system's run does with a block, put together from what it does with the parts.
-use Rattle.std.proofs.Common.{ℕ, ◌≡◌, ◌+◌, ◌<◌, Bool, true, false, List, [], ◌∷◌, ◌++◌, length, map, take, cond, get_or, refl, sym, ap, ◌∙◌, subst, arith}
+use Rattle.std.proofs.Common.{ℕ, ◌≡◌, ◌+◌, ◌<◌, Bool, true, false, List, [], ◌∷◌, ◌++◌, length, map, take, cond, get_or, refl, sym, ap, ◌∙◌}
 use Rattle.std.proofs.lemmas.List.{take_more}
 use Rattle.std.proofs.lemmas.List.Sums.{fold-append}
 use Rattle.ent_types.specs.TypeSets.{has_type, is_subset_of}
@@ -8,7 +8,7 @@ use Rattle.expr_read.specs.declared.tree.Assign.{Assign}
 use Rattle.scenario_read.specs.declared.record.SystemEntry.{SystemEntry}
 use Rattle.world_model.specs.Row.{Row}
 use Rattle.world_model.specs.World.{Block, Mark}
-use Rattle.plain_world.specs.Run.{assigned, job, visited, marked, marked_one, written_by}
+use Rattle.plain_world.specs.Run.{assigned, job, visited, marked, written_by}
 use Rattle.plain_world.specs.Plain.{Part, cell_at, row_at, rows_from, types_in, mark_in, block_from, IsEven}
 use Rattle.plain_world.specs.Evaluated.{DoesAssign, DoesJob, types_set, marked_part}
 

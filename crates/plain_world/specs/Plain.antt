@@ -1,5 +1,5 @@
 -- What the rows that are kept in columns stand for: a block's rows as records, and the world.
-use Rattle.std.specs.Prelude.{ℕ, ℤ, pos, ◌+◌, ◌≡◌, false, if◌then◌else◌, nat_eq, List, [], ◌∷◌, length, map, slice_index_or, slice_get, slice_set, Option, None, Some, All}
+use Rattle.std.specs.Prelude.{ℕ, ℤ, pos, ◌+◌, ◌≡◌, false, if◌then◌else◌, nat_eq, List, [], ◌∷◌, length, map, slice_index_or, slice_get, slice_set, Option, None}
 use Rattle.ent_types.specs.declared.value.Value.TheVariants.{Int}
 use Rattle.world_model.specs.Row.{Row, Cell}
 use Rattle.world_model.specs.World.{World, Block, Mark}

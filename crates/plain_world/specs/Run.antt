@@ -1,6 +1,5 @@
 -- The run of a scenario: the spawns, then frame after frame, each a fold of steps over the world.
 use Rattle.std.specs.Prelude.{ℕ, ℤ, zero, suc, pos, false, ◌+◌, if◌then◌else◌, nat_lt, List, [], ◌∷◌, ◌++◌, map, fold, unwrap_or, slice_get, option_map}
-use Rattle.ent_types.specs.declared.entity.Entity.{Entity}
 use Rattle.ent_types.specs.declared.kinds.FieldKind.{FieldKind}
 use Rattle.ent_types.specs.declared.kinds.FieldKind.TheVariants.{I64}
 use Rattle.ent_types.specs.declared.point.Point.{Point}

@@ -23,9 +23,9 @@ fn empty_columns(
 ) -> Result<TypeColumns, Memory>
     ensures { IfOk result (λ p. part_of p ≡ empty_part registry.now ty.0) }
 {
-    let types_fields = fields_of(registry, ty);
-    let mut fields = Vec::with_capacity(alloc, types_fields.len())?;
-    for _field in types_fields {
+    let infos = fields_of(registry, ty);
+    let mut fields = Vec::with_capacity(alloc, infos.len())?;
+    for _field in infos {
         fields.push(Vec::with_capacity(alloc, most)?)?;
     }
     Ok(TypeColumns {

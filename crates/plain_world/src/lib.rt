@@ -11,6 +11,8 @@ mod frames;
 mod pushing;
 mod room;
 mod running;
+#[cfg(test)]
+mod spawn_tests;
 mod spawning;
 #[cfg(test)]
 mod tests;

@@ -7,7 +7,8 @@ use sqlite_items::Boxed;
 use std::alloc::Global;
 use std::test::Fail;
 
-const COUNT: TypeId = TypeId(3);
+/// The type Count.
+pub const COUNT: TypeId = TypeId(3);
 
 /// `Count.v + 1`
 fn one_more(alloc: Global) -> Result<Expr, Fail> {
@@ -40,7 +41,7 @@ fn registry(alloc: Global) -> Result<Registry, Fail> {
 }
 
 /// The system that sets `Count.v = Count.v + 1`.
-fn system(alloc: Global) -> Result<SystemEntry, Fail> {
+pub fn system(alloc: Global) -> Result<SystemEntry, Fail> {
     let mut set = Sequence::new(alloc);
     set.push(Assign {
         ty: COUNT,

@@ -1,4 +1,4 @@
-use Rattle.std.proofs.Common.{◌≡◌, ◌<◌, sym, ap, ◌∙◌, add-one, arith, map, length, get_or}
+use Rattle.std.proofs.Common.{◌≡◌, ◌<◌, sym, ap, ◌∙◌, add-one, arith, length}
 use Rattle.std.proofs.lemmas.List.{map-set, length-map, set-get_or}
 use Rattle.std.proofs.Math.ListN.{get_or-map, set}
 use Rattle.plain_world.specs.Plain.{part_of, parts_of}

@@ -1,7 +1,7 @@
-use Rattle.std.proofs.Common.{◌≡◌, map, ap, arith}
+use Rattle.std.proofs.Common.{map}
 use Rattle.plain_world.specs.Run.{home_of}
 use Rattle.plain_world.specs.Plain.{block_of}
-use Rattle.plain_world.specs.NewRows.{cells_in, new_row, room_place}
+use Rattle.plain_world.specs.NewRows.{cells_in, new_row}
 use Rattle.plain_world.proofs.Rooms.{room_stays}
 use Rattle.plain_world.proofs.entering.create.Goals as goal
 

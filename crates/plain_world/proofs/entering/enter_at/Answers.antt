@@ -1,11 +1,10 @@
-use Rattle.std.proofs.Common.{◌≡◌, ◌<◌, ◌≤◌, ◌++◌, ◌∷◌, [], map, length, true, ap, sym, ◌∙◌, arith}
+use Rattle.std.proofs.Common.{◌<◌, ◌≤◌, ◌++◌, ◌∷◌, [], map, length, ap, sym, ◌∙◌, arith}
 use Rattle.std.proofs.lemmas.List.{map-set, map_push, length-map}
 use Rattle.std.proofs.Math.ListN.{get_or-map, set}
 use Rattle.world_model.specs.World.{Block}
-use Rattle.world_model.specs.Enter.{entered, new_block}
 use Rattle.plain_world.specs.Run.{home_of}
 use Rattle.plain_world.specs.Plain.{block_of, parts_of}
-use Rattle.plain_world.specs.NewRows.{cells_in, new_row, room_place}
+use Rattle.plain_world.specs.NewRows.{cells_in, new_row}
 use Rattle.plain_world.proofs.Evens.{even_at, even-set}
 use Rattle.plain_world.proofs.Rooms.{has_room-there, same_types, enters_at, enters_last}
 use Rattle.plain_world.proofs.Wides.{even_push, wide_at, wide-set, wide_push, fit_wide, wide_fit}

@@ -1,8 +1,5 @@
-use Rattle.std.proofs.Common.{◌≡◌, [], map, length, ap, sym, ◌∙◌}
-use Rattle.world_model.specs.Enter.{entered, new_block}
-use Rattle.plain_world.specs.Run.{home_of}
-use Rattle.plain_world.specs.Plain.{parts_of, block_from}
-use Rattle.plain_world.specs.NewRows.{cells_in, types_of, new_row, empty_part}
+use Rattle.std.proofs.Common.{◌∙◌}
+use Rattle.plain_world.specs.NewRows.{cells_in, types_of, new_row}
 use Rattle.plain_world.proofs.Wides.{fit_empty, empty_even, empty_block, wide_fit}
 use Rattle.plain_world.proofs.entering.new_block.Goals as goal
 

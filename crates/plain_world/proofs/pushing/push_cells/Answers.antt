@@ -1,8 +1,7 @@
-use Rattle.std.proofs.Common.{◌≡◌, ◌<◌, map, length, refl, ap, sym, ◌∙◌, add-one, arith}
+use Rattle.std.proofs.Common.{◌<◌, length, refl, ap, sym, ◌∙◌, add-one, arith}
 use Rattle.std.proofs.lemmas.List.{map-set, length-map, length-set}
-use Rattle.std.proofs.Math.ListN.{get_or-map, set}
+use Rattle.std.proofs.Math.ListN.{get_or-map}
 use Rattle.plain_world.specs.Plain.{part_of, parts_of}
-use Rattle.plain_world.specs.NewRows.{parts_with}
 use Rattle.plain_world.proofs.RowPut.{parts_with_none, parts_with_more, fitting_at, fitting_long}
 use Rattle.plain_world.proofs.pushing.push_cells.Goals as goal
 

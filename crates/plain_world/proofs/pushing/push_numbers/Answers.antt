@@ -1,9 +1,7 @@
-use Rattle.std.proofs.Common.{◌≡◌, ◌<◌, ℤ, pos, List, ◌++◌, ◌∷◌, [], map, length, refl, ap, sym, ◌∙◌, add-one, arith, get_or}
+use Rattle.std.proofs.Common.{◌≡◌, ◌<◌, pos, ◌++◌, ◌∷◌, [], map, length, refl, ap, sym, ◌∙◌, add-one, arith, get_or}
 use Rattle.std.proofs.lemmas.Int.{to_z-of_z}
 use Rattle.std.proofs.lemmas.List.{map-set, length-map, length-set, get_or_default}
-use Rattle.std.proofs.Math.ListN.{get_or-map, set}
-use Rattle.std.specs.declared.vec.Vec.{Vec}
-use Rattle.plain_world.specs.NewRows.{with_numbers}
+use Rattle.std.proofs.Math.ListN.{get_or-map}
 use Rattle.plain_world.proofs.RowPut.{with_numbers_none, with_numbers_more}
 use Rattle.plain_world.proofs.pushing.push_numbers.Goals as goal
 

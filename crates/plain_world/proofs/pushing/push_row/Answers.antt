@@ -1,7 +1,6 @@
-use Rattle.std.proofs.Common.{◌≡◌, ◌+◌, length, ap, sym, ◌∙◌}
+use Rattle.std.proofs.Common.{length}
 use Rattle.std.proofs.lemmas.List.{length_push}
-use Rattle.plain_world.specs.Plain.{parts_of, block_from, IsEven}
-use Rattle.plain_world.specs.NewRows.{parts_with, AreFitting}
+use Rattle.plain_world.specs.Plain.{parts_of}
 use Rattle.plain_world.proofs.RowPut.{block_put, fitting_stays, even_put}
 use Rattle.plain_world.proofs.pushing.push_row.Goals as goal
 

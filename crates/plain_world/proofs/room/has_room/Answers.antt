@@ -1,4 +1,4 @@
-use Rattle.std.proofs.Common.{◌≡◌, ap, sym, ◌∙◌, arith, length}
+use Rattle.std.proofs.Common.{◌∙◌, arith}
 use Rattle.plain_world.specs.Plain.{parts_of}
 use Rattle.plain_world.specs.NewRows.{cells_in}
 use Rattle.plain_world.proofs.Rooms.{full_block, free_block}

@@ -1,4 +1,3 @@
-use Rattle.std.proofs.Common.{sym}
 use Rattle.plain_world.proofs.NewCells.{full-cells_of}
 use Rattle.plain_world.proofs.spawning.spawn.Goals as goal
 

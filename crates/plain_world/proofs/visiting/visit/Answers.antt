@@ -1,4 +1,4 @@
-use Rattle.std.proofs.Common.{◌≡◌, rules, length, arith}
+use Rattle.std.proofs.Common.{◌≡◌, length, arith}
 use Rattle.plain_world.proofs.Visits.{is_visited, even-marked}
 use Rattle.plain_world.proofs.visiting.visit.Goals as goal
 
