@@ -10,7 +10,7 @@ struct Run<'a> {
     last: &'a [u8],
 }
 
-const RUNS: [Run<'static>; 8] = [
+const RUNS: [Run<'static>; 13] = [
     // Two spawns of equal types.
     Run {
         scenario: br#"frames = 1
@@ -78,6 +78,57 @@ spawn = [{ count = 2 }, {}]
 system = [{ name = "S" }]
 "#,
         last: b"world frames=1 entities=3\n0:1\n1:1\n2:1\n",
+    },
+    // Fields at both ends of their ranges.
+    Run {
+        scenario: br#"frames = 1
+type = [{ name = "P", fields = ["high:i32", "low:i32"] }]
+spawn = [{ with = { P = [2147483647, -2147483648] } }]
+system = [{ name = "S", all = ["P"], set = ["P.high = P.high + 1", "P.low = P.low - 1"] }]
+"#,
+        last: b"world frames=1 entities=1\n0:1 P(-2147483648,2147483647)\n",
+    },
+    Run {
+        scenario: br#"frames = 1
+type = [{ name = "P", fields = ["high:i64", "low:i64"] }]
+spawn = [{ with = { P = [9223372036854775807, -9223372036854775808] } }]
+system = [{ name = "S", all = ["P"], set = ["P.high = P.high + 1", "P.low = P.low - 1"] }]
+"#,
+        last: b"world frames=1 entities=1\n0:1 P(-9223372036854775808,9223372036854775807)\n",
+    },
+    // A field keeps the low bits of a sum.
+    Run {
+        scenario: br#"frames = 1
+type = [{ name = "P", fields = ["v:i32"] }]
+spawn = [{ with = { P = [7] } }]
+system = [{ name = "S", all = ["P"], set = ["P.v = P.v + 4294967296 + 2147483648"] }]
+"#,
+        last: b"world frames=1 entities=1\n0:1 P(-2147483641)\n",
+    },
+    // As many frames as may be.
+    Run {
+        scenario: br#"frames = 100000
+type = [{ name = "P", fields = ["v:i64"] }]
+spawn = [{ with = { P = [0] } }]
+system = [{ name = "S", all = ["P"], set = ["P.v = P.v + 3"] }]
+"#,
+        last: b"world frames=100000 entities=1\n0:1 P(300000)\n",
+    },
+    // Six systems over one type.
+    Run {
+        scenario: br#"frames = 1
+type = [{ name = "P", fields = ["v:i64"] }]
+spawn = [{ with = { P = [1] } }]
+system = [
+  { name = "A", all = ["P"], set = ["P.v = P.v + P.v"] },
+  { name = "B", all = ["P"], set = ["P.v = P.v + 1"] },
+  { name = "C", all = ["P"], set = ["P.v = P.v + P.v"] },
+  { name = "D", all = ["P"], set = ["P.v = P.v + 1"] },
+  { name = "E", all = ["P"], set = ["P.v = P.v + P.v"] },
+  { name = "F", all = ["P"], set = ["P.v = P.v + 1"] },
+]
+"#,
+        last: b"world frames=1 entities=1\n0:1 P(15)\n",
     },
     // Two full blocks and one row more.
     Run {

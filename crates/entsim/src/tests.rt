@@ -143,10 +143,19 @@ fn tells_a_failed_write(rt: HostRuntime) -> Result<(), Fail> {
 }
 
 // Files that are refused, and the cause.
-const REFUSED: [(Option<&[u8]>, &[u8]); 4] = [
+const REFUSED: [(Option<&[u8]>, &[u8]); 7] = [
     (None, b"error scenario cause=Absent\n"),
     (Some(b"frames ="), b"error scenario cause=NotToml\n"),
     (Some(b"\xff"), b"error scenario cause=NotToml\n"),
+    (
+        Some(b"frames = -1\nx = ["),
+        b"error scenario cause=NotToml\n",
+    ),
+    (Some(b""), b"error scenario cause=NotBuilt\n"),
+    (
+        Some(b"frames = 100001\n"),
+        b"error scenario cause=NotBuilt\n",
+    ),
     (
         Some(b"frames = 1\nevent = []\n"),
         b"error scenario cause=NotBuilt\n",
