@@ -7,3 +7,4 @@ pub mod Languages
 pub mod Machine
 pub mod Meaning
 pub mod Scopes
+pub mod Reader

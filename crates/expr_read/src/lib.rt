@@ -1,11 +1,15 @@
 //! The little language of scenarios: its texts, and the trees that they mean.
 #![tactic(auto)]
 
+mod build;
 mod chain;
 mod fault;
 mod fronts;
 mod laws;
+mod names;
+mod pending;
 mod places;
+mod stack;
 mod symbol;
 mod tree;
 mod words;

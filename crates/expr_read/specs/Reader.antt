@@ -1,0 +1,67 @@
+-- What the steps of a reader leave. A step is decided before it changes anything.
+use Rattle.std.specs.Prelude.{ℕ, zero, suc, ◌≡◌, ◌+◌, ◌^◌, List, [], ◌∷◌, ◌++◌, Bool, true, false, ◌||◌, nat_le, Option, Some, None, if◌then◌else◌, is_some, map}
+use Rattle.expr_tokens.specs.Tokens.{Token, word, number, sign, bad, Placed}
+use Rattle.expr_read.specs.declared.fault.ExprCause.{ExprCause}
+use Rattle.expr_read.specs.declared.fault.ExprCause.TheVariants.{TooLong, BadChar, NumberRange, TooDeep, UnknownName, Unexpected, Memory}
+use Rattle.expr_read.specs.declared.symbol.Symbol.{Symbol}
+use Rattle.expr_read.specs.declared.symbol.Symbol.TheVariants as wait
+use Rattle.expr_read.specs.declared.symbol.Built.{Built}
+use Rattle.expr_read.specs.declared.symbol.Built.TheVariants as built
+use Rattle.expr_read.specs.declared.pending.Pending.{Pending}
+use Rattle.expr_read.specs.declared.pending.Pending.TheVariants.{Nothing, One, Two, Three, Arguments}
+use Rattle.expr_read.specs.declared.build.Ending.{Ending}
+use Rattle.expr_read.specs.declared.build.Ending.TheVariants as endings
+use Rattle.ent_types.specs.declared.entity.TypeId.{TypeId}
+use Rattle.expr_read.specs.declared.tree.Expr.{Expr}
+use Rattle.expr_read.specs.declared.tree.Expr.TheVariants as exprs
+use Rattle.expr_read.specs.declared.tree.RefExpr.{RefExpr}
+use Rattle.expr_read.specs.Machine.{State, tails, arguments, apply, ended, settle, finish, steps}
+use Rattle.expr_read.specs.Scopes.{Scope}
+
+-- the symbols in order, the next one first
+abbrev pub pending : Pending → List Symbol
+pending Nothing = []
+pending (One a) = a ∷ []
+pending (Two a b) = a ∷ b ∷ []
+pending (Three a b c) = a ∷ b ∷ c ∷ []
+pending (Arguments call depth) = arguments call depth
+
+-- what stands in the place of a symbol: behind an operand, the levels that the symbol still allows
+abbrev pub pending_at : Symbol → Pending → List Symbol
+pending_at (wait.Level level depth) p = pending p ++ tails level depth
+pending_at symbol p = pending p
+
+-- the levels that a symbol allows behind an operand
+abbrev pub allowed : Symbol → List Symbol
+allowed (wait.Level level depth) = tails level depth
+allowed symbol = []
+
+-- what a symbol that ends builds
+abbrev pub ended_by : Option Ending → List Built → List Built
+ended_by None bs = bs
+ended_by (Some endings.Nothing) bs = bs
+ended_by (Some (endings.Variable v)) bs = built.Int (exprs.Variable v) ∷ bs
+ended_by (Some (endings.Do a)) bs = apply a bs
+
+-- what was built last, where it is of this kind
+abbrev pub top_int : List Built → Option Expr
+top_int (built.Int e ∷ bs) = Some e
+top_int bs = None
+
+abbrev pub top_ref : List Built → Option RefExpr
+top_ref (built.Ref r ∷ bs) = Some r
+top_ref bs = None
+
+abbrev pub top_type : List Built → Option TypeId
+top_type (built.Type ty ∷ bs) = Some ty
+top_type bs = None
+
+abbrev pub top_field : List Built → Option (TypeId × ℕ)
+top_field (built.Field ty i ∷ bs) = Some (ty, i)
+top_field bs = None
+
+-- what the first symbols build as they end
+abbrev pub ended_first : ℕ → List Symbol → List Built → List Built
+ended_first zero waits bs = bs
+ended_first (suc k) [] bs = bs
+ended_first (suc k) (symbol ∷ below) bs = ended_first k below (ended symbol bs)
