@@ -1,9 +1,11 @@
 //! The little language of scenarios: its texts, and the trees that they mean.
 #![tactic(auto)]
 
+mod begin;
 mod build;
 mod chain;
 mod fault;
+mod fill;
 mod fronts;
 mod laws;
 mod names;
