@@ -1,5 +1,5 @@
 -- What the steps of a reader leave. A step is decided before it changes anything.
-use Rattle.std.specs.Prelude.{ℕ, zero, suc, ◌≡◌, ◌+◌, ◌^◌, List, [], ◌∷◌, ◌++◌, Bool, true, false, ◌||◌, nat_le, Option, Some, None, if◌then◌else◌, is_some, map}
+use Rattle.std.specs.Prelude.{ℕ, zero, suc, ◌≡◌, ◌+◌, ◌^◌, List, [], ◌∷◌, ◌++◌, Bool, true, false, ◌||◌, nat_le, Option, Some, None, if◌then◌else◌, is_some, drop}
 use Rattle.expr_tokens.specs.Tokens.{Token, word, number, sign, bad, Placed}
 use Rattle.expr_read.specs.declared.fault.ExprCause.{ExprCause}
 use Rattle.expr_read.specs.declared.fault.ExprCause.TheVariants.{TooLong, BadChar, NumberRange, TooDeep, UnknownName, Unexpected, Memory}
@@ -9,6 +9,7 @@ use Rattle.expr_read.specs.declared.symbol.Built.{Built}
 use Rattle.expr_read.specs.declared.symbol.Built.TheVariants as built
 use Rattle.expr_read.specs.declared.pending.Pending.{Pending}
 use Rattle.expr_read.specs.declared.pending.Pending.TheVariants.{Nothing, One, Two, Three, Arguments}
+use Rattle.expr_read.specs.declared.settle.Place.{Place}
 use Rattle.expr_read.specs.declared.build.Ending.{Ending}
 use Rattle.expr_read.specs.declared.build.Ending.TheVariants as endings
 use Rattle.ent_types.specs.declared.entity.TypeId.{TypeId}
@@ -65,3 +66,27 @@ abbrev pub ended_first : ℕ → List Symbol → List Built → List Built
 ended_first zero waits bs = bs
 ended_first (suc k) [] bs = bs
 ended_first (suc k) (symbol ∷ below) bs = ended_first k below (ended symbol bs)
+
+-- where a token is taken: the symbol that takes it behind so many others that end, and what it leaves
+abbrev pub placed : Option Place → List Symbol → List Built → Option State
+placed None waits bs = None
+placed (Some p) waits bs =
+    Some (record { waits = pending_at p.symbol p.left ++ drop (suc p.above) waits; built = ended_first p.above waits bs })
+
+-- a step that was taken leaves the state that is found, and one that wasn't leaves all as it was
+abbrev pub Took : Bool → Option State → State → State → Type 0
+Took true found old new = found ≡ Some new
+Took false found old new = (found ≡ None) × (new ≡ old)
+
+-- the cause where the token is no name
+abbrev pub deep_or : Bool → ExprCause → ExprCause
+deep_or deep cause = if deep then TooDeep else cause
+
+-- the cause at a token that isn't taken
+abbrev pub cause_at : Scope → ℕ → List Symbol → List Built → Token → ExprCause
+cause_at s limit waits bs bad = BadChar
+cause_at s limit waits bs (word name) = deep_or (is_some (settle s (limit + 1) waits bs (word name))) UnknownName
+cause_at s limit waits bs (sign g) = deep_or (is_some (settle s (limit + 1) waits bs (sign g))) Unexpected
+cause_at s limit waits bs (number n) =
+    if (nat_le (2 ^ 63) n || is_some (settle s limit waits bs (number 0))) then NumberRange
+    else deep_or (is_some (settle s (limit + 1) waits bs (number n))) Unexpected

@@ -11,6 +11,7 @@ mod laws;
 mod names;
 mod pending;
 mod places;
+mod settle;
 mod stack;
 mod symbol;
 mod tree;

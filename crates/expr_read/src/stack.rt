@@ -1,5 +1,5 @@
 //! A stack, which contracts see as the list of its elements from the top.
-ghost use Rattle.std.specs.Prelude.{◌≡◌, ◌<◌, [], ◌∷◌, length, slice_index_or, OnOk, MatchOption};
+ghost use Rattle.std.specs.Prelude.{◌≡◌, ◌<◌, [], ◌∷◌, drop, length, slice_index_or, OnOk, MatchOption};
 
 use ent_types::Memory;
 use std::alloc::Global;
@@ -54,6 +54,13 @@ impl<T: Drop> Stack<T> {
     {
         self.items.push(item)?;
         Ok(())
+    }
+
+    /// Takes the element at the top away, if there is one.
+    pub(crate) fn lower(&mut self)
+        ensures { self.new ≡ drop 1 self.old }
+    {
+        let _ = self.pop();
     }
 
     /// Takes all elements away.
