@@ -1,6 +1,7 @@
 mod ChainSteps
 mod Complete
 mod Completions
+pub mod FirstFaults
 mod Keeps
 mod Prefixes
 pub mod Raised
@@ -9,6 +10,7 @@ mod ReadRefs
 mod Runs
 pub mod Settling
 mod SignFacts
+pub mod Starts
 mod Takes
 mod TokenFronts
 mod Unique

@@ -1,5 +1,5 @@
 -- What the steps of a reader leave. A step is decided before it changes anything.
-use Rattle.std.specs.Prelude.{ℕ, zero, suc, ◌≡◌, ◌+◌, ◌^◌, List, [], ◌∷◌, ◌++◌, Bool, true, false, ◌||◌, nat_le, Option, Some, None, if◌then◌else◌, is_some, drop}
+use Rattle.std.specs.Prelude.{ℕ, zero, suc, ◌≡◌, ◌+◌, ◌^◌, List, [], ◌∷◌, ◌++◌, Bool, true, false, ◌||◌, nat_le, Option, Some, None, if◌then◌else◌, is_some, drop, map}
 use Rattle.expr_tokens.specs.Tokens.{Token, word, number, sign, bad, Placed}
 use Rattle.expr_read.specs.declared.fault.ExprCause.{ExprCause}
 use Rattle.expr_read.specs.declared.fault.ExprCause.TheVariants.{TooLong, BadChar, NumberRange, TooDeep, UnknownName, Unexpected, Memory}
@@ -90,3 +90,18 @@ cause_at s limit waits bs (sign g) = deep_or (is_some (settle s (limit + 1) wait
 cause_at s limit waits bs (number n) =
     if (nat_le (2 ^ 63) n || is_some (settle s limit waits bs (number 0))) then NumberRange
     else deep_or (is_some (settle s (limit + 1) waits bs (number n))) Unexpected
+
+-- the machine stops where it stands: it doesn't take the next token, or may not end where none is left
+abbrev pub Halts : Scope → ℕ → State → List Placed → ℕ → ExprCause → ℕ → Type 0
+Halts s limit st [] end cause at = (finish st.waits st.built ≡ None) × (cause ≡ Unexpected) × (at ≡ end)
+Halts s limit st (p ∷ rest) end cause at =
+    (settle s limit st.waits st.built p.token ≡ None) × (cause ≡ cause_at s limit st.waits st.built p.token) × (at ≡ p.at)
+
+-- the machine takes a front of the tokens and stops there
+pub record Stops (s : Scope) (limit : ℕ) (waits : List Symbol) (tokens : List Placed) (end : ℕ) (cause : ExprCause) (at : ℕ) : Type 0 where
+  pub front : List Placed
+  pub rest : List Placed
+  pub state : State
+  pub split : tokens ≡ front ++ rest
+  pub taken : steps s limit (record { waits = waits; built = [] }) (map (λ p. p.token) front) ≡ Some state
+  pub halts : Halts s limit state rest end cause at

@@ -19,7 +19,9 @@ mod words;
 
 pub use chain::read_chain;
 pub use fault::{ExprCause, ExprFault};
-pub use laws::{goes_on_with_the_grammar, machine_reads_the_grammar, one_derivation};
+pub use laws::{
+    goes_on_with_the_grammar, machine_reads_the_grammar, one_derivation, stops_at_the_first_fault,
+};
 pub use tree::{
     Assign, BinaryOp, CommandText, Expr, PartExpr, RefExpr, Switch, UnaryOp, ValueExpr, Variable,
 };
