@@ -8,3 +8,4 @@ pub mod Machine
 pub mod Meaning
 pub mod Scopes
 pub mod Reader
+pub mod Readings

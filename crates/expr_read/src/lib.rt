@@ -3,6 +3,7 @@
 
 mod begin;
 mod build;
+mod cause;
 mod chain;
 mod fault;
 mod fill;
