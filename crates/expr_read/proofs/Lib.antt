@@ -1,3 +1,4 @@
+pub mod Answered
 mod ChainSteps
 mod Complete
 mod Completions
@@ -13,5 +14,6 @@ mod SignFacts
 pub mod Starts
 mod Takes
 mod TokenFronts
+pub mod TokenSteps
 mod Unique
 mod Whole

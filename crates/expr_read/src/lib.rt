@@ -12,9 +12,11 @@ mod laws;
 mod names;
 mod pending;
 mod places;
+mod read;
 mod settle;
 mod stack;
 mod symbol;
+mod texts;
 mod tree;
 mod words;
 
