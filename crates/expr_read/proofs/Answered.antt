@@ -1,6 +1,6 @@
 -- What a reader answers, from what the machine does.
-use Rattle.std.proofs.Common.{ℕ, ◌≡◌, ◌≤◌, List, [], ◌∷◌, map, length, false, Some, sym, subst}
-use Rattle.expr_tokens.specs.Tokens.{Token, Placed, AreTokens}
+use Rattle.std.proofs.Common.{ℕ, ◌≡◌, List, [], ◌∷◌, map, length, false, sym, subst}
+use Rattle.expr_tokens.specs.Tokens.{Token, Placed}
 use Rattle.expr_read.specs.declared.fault.ExprFault.{ExprFault}
 use Rattle.expr_read.specs.declared.fault.ExprCause.{ExprCause}
 use Rattle.expr_read.specs.declared.fault.ExprCause.TheVariants.{TooLong, BadChar, NumberRange, TooDeep, UnknownName, Unexpected, Memory}
@@ -10,7 +10,7 @@ use Rattle.expr_read.specs.declared.symbol.Built.{Built}
 use Rattle.expr_read.specs.declared.symbol.Built.TheVariants as built
 use Rattle.expr_read.specs.Faults.{Texts, IsOnly, IsStuck, IsFirstFault}
 use Rattle.expr_read.specs.Languages.{exprs, refs}
-use Rattle.expr_read.specs.Readings.{IsMeant, IsFaulty, IsFault, Reads, Refuses, too_long, no_memory, stopped, StopsIn}
+use Rattle.expr_read.specs.Readings.{IsMeant, IsFaulty, IsFault, Reads, Refuses, too_long, no_memory, stopped}
 use Rattle.expr_read.specs.Reader.{Stops}
 use Rattle.expr_read.specs.Scopes.{Scope, IsLawful}
 use Rattle.expr_read.proofs.Starts.{expr_fault, ref_fault, expr_only, ref_only}

@@ -1,14 +1,14 @@
 -- Where the machine stops there is the first fault of the text.
-use Rattle.std.proofs.Common.{ℕ, ◌≡◌, ◌≤◌, ◌<◌, ◌+◌, ◌^◌, ◌⊎◌, ◌↔◌, inl, inr, ⊎_elim, List, [], ◌∷◌, ◌++◌, map, Bool, true, false, ◌||◌, cond, leb, Option, Some, None, refl, sym, ap, ◌∙◌, subst, arith}
+use Rattle.std.proofs.Common.{ℕ, ◌≡◌, ◌<◌, ◌+◌, ◌^◌, ◌↔◌, inl, inr, ⊎_elim, List, [], ◌∷◌, ◌++◌, map, Bool, true, false, ◌||◌, cond, Option, Some, None, refl, sym, ap, ◌∙◌, subst, arith}
 use Rattle.std.proofs.lemmas.Bool.{leb-true, leb-false}
 use Rattle.std.proofs.lemmas.List.{append-nil}
 use Rattle.std.specs.Prelude.{is_some, nat_le}
 use Rattle.expr_tokens.specs.Tokens.{Token, word, number as numeral, sign, bad, Placed}
 use Rattle.expr_read.specs.declared.fault.ExprCause.{ExprCause}
-use Rattle.expr_read.specs.declared.fault.ExprCause.TheVariants.{NumberRange, TooDeep, UnknownName, Unexpected}
+use Rattle.expr_read.specs.declared.fault.ExprCause.TheVariants.{NumberRange, UnknownName, Unexpected}
 use Rattle.expr_read.specs.declared.symbol.Symbol.{Symbol}
 use Rattle.expr_read.specs.declared.symbol.Built.{Built}
-use Rattle.expr_read.specs.Faults.{Texts, IsText, CanGoOn, HasCause, IsOutOfRange, IsTooDeep, IsStuck, IsFirstFault}
+use Rattle.expr_read.specs.Faults.{Texts, IsText, CanGoOn, HasCause, IsOutOfRange, IsStuck, IsFirstFault}
 use Rattle.expr_read.specs.Scopes.{Scope, IsLawful}
 use Rattle.expr_read.specs.Machine.{State, run, settle, finish, steps, go_on, and_then}
 use Rattle.expr_read.specs.Reader.{cause_at, deep_or, Halts, Stops}
@@ -50,8 +50,8 @@ module _ (s : Scope) (limit : ℕ) where
       ∙ ap (λ o. go_on o (λ k. run s limit k.waits k.built [])) h ∙ run_none st
 
 module _ {Tree Meaning : Type 0} (texts : Texts Tree Meaning) (s : Scope) (lawful : IsLawful s) (limit : ℕ) (start : List Symbol) (good : Good s lawful limit start)
-  (on : (l : ℕ) (front : List Token) → CanGoOn texts l front ↔ ((st : State) × (steps s l (record { waits = start; built = [] }) front ≡ Some st)))
-  (reads : (ts : List Token) → IsText texts limit ts → (ws : List Built) × (run s limit start [] ts ≡ Some ws)) where
+    (on : (l : ℕ) (front : List Token) → CanGoOn texts l front ↔ ((st : State) × (steps s l (record { waits = start; built = [] }) front ≡ Some st)))
+    (reads : (ts : List Token) → IsText texts limit ts → (ws : List Built) × (run s limit start [] ts ≡ Some ws)) where
   abbrev Stands : ℕ → List Token → State → Type 0
   Stands l front st = steps s l (record { waits = start; built = [] }) front ≡ Some st
 

@@ -1,10 +1,10 @@
 -- How a token passes symbols that end.
-use Rattle.std.proofs.Common.{ℕ, zero, suc, ◌≡◌, ◌<◌, ◌≤◌, ◌+◌, List, [], ◌∷◌, ◌++◌, Bool, true, false, cond, length, get_or, drop, Option, Some, None, refl, sym, ap, ◌∙◌, subst, arith, add-one}
+use Rattle.std.proofs.Common.{ℕ, zero, suc, ◌≡◌, ◌<◌, ◌≤◌, ◌+◌, List, [], ◌∷◌, ◌++◌, true, false, cond, length, get_or, drop, Some, None, refl, sym, ap, ◌∙◌, arith, add-one}
 use Rattle.std.proofs.lemmas.List.{drop_more, drop_all}
 use Rattle.expr_tokens.specs.Tokens.{Token}
 use Rattle.expr_read.specs.declared.symbol.Symbol.{Symbol}
 use Rattle.expr_read.specs.declared.symbol.Built.{Built}
-use Rattle.expr_read.specs.Machine.{State, take, may_end, ended, settle, finish, onward}
+use Rattle.expr_read.specs.Machine.{take, may_end, ended, settle, finish, onward}
 use Rattle.expr_read.specs.Reader.{ended_first}
 use Rattle.expr_read.specs.Scopes.{Scope}
 

@@ -1,5 +1,5 @@
 -- The texts that the machine reads from a symbol.
-use Rattle.std.proofs.Common.{ℕ, ◌≡◌, List, [], ◌∷◌, Bool, false, Option, Some, refl, sym, ap, ◌∙◌}
+use Rattle.std.proofs.Common.{ℕ, ◌≡◌, List, [], ◌∷◌, false, Some, refl, sym, ap, ◌∙◌}
 use Rattle.expr_tokens.specs.Tokens.{Token, Placed}
 use Rattle.expr_read.specs.declared.fault.ExprCause.{ExprCause}
 use Rattle.expr_read.specs.declared.symbol.Symbol.TheVariants as wait
@@ -32,22 +32,28 @@ module _ (s : Scope) (lawful : IsLawful s) (limit : ℕ) where
   -- the one tree that was read
   pub expr_only : (ts : List Token) (ws : List Built) → run s limit (wait.Level 5 0 ∷ []) [] ts ≡ Some ws → (e : _) × (ws ≡ built.Int e ∷ []) × IsOnly (exprs s) limit ts e
   expr_only ts ws h =
-      let r = expr_read s lawful limit ts ws h in
-      (meaning r.0, r.3, record {
-        tree = r.0;
-        fits = r.1;
-        spelled = r.2;
-        means = refl;
-        only = λ other fits same. (unique s lawful limit other r.0 5 0 [] [] fits r.1 refl refl (same ∙ sym r.2)).0;
-      })
+      let r = expr_read s lawful limit ts ws h in (
+        meaning r.0,
+        r.3,
+        record {
+          tree = r.0;
+          fits = r.1;
+          spelled = r.2;
+          means = refl;
+          only = λ other fits same. (unique s lawful limit other r.0 5 0 [] [] fits r.1 refl refl (same ∙ sym r.2)).0;
+        },
+      )
 
   pub ref_only : (ts : List Token) (ws : List Built) → run s limit (wait.Ref false ∷ []) [] ts ≡ Some ws → (e : _) × (ws ≡ built.Ref e ∷ []) × IsOnly (refs s) limit ts e
   ref_only ts ws h =
-      let r = ref_read s lawful limit false ts ws h in
-      (meaning_ref r.0, r.3, record {
-        tree = r.0;
-        fits = r.1;
-        spelled = r.2;
-        means = refl;
-        only = λ other fits same. (unique_ref s other r.0 false [] [] fits r.1 refl refl (same ∙ sym r.2)).0;
-      })
+      let r = ref_read s lawful limit false ts ws h in (
+        meaning_ref r.0,
+        r.3,
+        record {
+          tree = r.0;
+          fits = r.1;
+          spelled = r.2;
+          means = refl;
+          only = λ other fits same. (unique_ref s other r.0 false [] [] fits r.1 refl refl (same ∙ sym r.2)).0;
+        },
+      )

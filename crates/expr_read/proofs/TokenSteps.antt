@@ -1,8 +1,8 @@
 -- The machine over the tokens of the code, one after another.
-use Rattle.std.proofs.Common.{ℕ, ◌≡◌, ◌≤◌, ◌<◌, ◌+◌, ◌⊎◌, inl, inr, ⊎_elim, List, [], ◌∷◌, ◌++◌, map, length, get_or, take, drop, Option, Some, None, refl, sym, ap, ◌∙◌, subst, arith, take-append-drop}
+use Rattle.std.proofs.Common.{ℕ, ◌≡◌, ◌≤◌, ◌<◌, ◌+◌, ◌⊎◌, inl, inr, ⊎_elim, List, [], ◌∷◌, ◌++◌, map, length, get_or, take, drop, Some, None, sym, ap, ◌∙◌, take-append-drop}
 use Rattle.std.proofs.lemmas.List.{drop_more, get_or_default, take_more, take_all, map-append, append-nil}
 use Rattle.expr_tokens.specs.declared.token.Lexeme.{Lexeme}
-use Rattle.expr_tokens.specs.Tokens.{Token, Placed, AreTokens}
+use Rattle.expr_tokens.specs.Tokens.{Token, Placed}
 use Rattle.expr_tokens.specs.Seen.{seen, token_seen}
 use Rattle.expr_read.specs.declared.fault.ExprFault.{ExprFault}
 use Rattle.expr_read.specs.declared.fault.ExprCause.{ExprCause}

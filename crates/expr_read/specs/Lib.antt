@@ -9,3 +9,4 @@ pub mod Meaning
 pub mod Scopes
 pub mod Reader
 pub mod Readings
+pub mod Lengths

@@ -2,7 +2,7 @@
 use Rattle.std.specs.Prelude.{ℕ, zero, suc, ◌≡◌, ◌+◌, ◌^◌, List, [], ◌∷◌, ◌++◌, Bool, true, false, ◌||◌, nat_le, Option, Some, None, if◌then◌else◌, is_some, drop, map}
 use Rattle.expr_tokens.specs.Tokens.{Token, word, number, sign, bad, Placed}
 use Rattle.expr_read.specs.declared.fault.ExprCause.{ExprCause}
-use Rattle.expr_read.specs.declared.fault.ExprCause.TheVariants.{TooLong, BadChar, NumberRange, TooDeep, UnknownName, Unexpected, Memory}
+use Rattle.expr_read.specs.declared.fault.ExprCause.TheVariants.{BadChar, NumberRange, TooDeep, UnknownName, Unexpected}
 use Rattle.expr_read.specs.declared.symbol.Symbol.{Symbol}
 use Rattle.expr_read.specs.declared.symbol.Symbol.TheVariants as wait
 use Rattle.expr_read.specs.declared.symbol.Built.{Built}

@@ -1,6 +1,6 @@
 -- What a reader of a text answers.
-use Rattle.std.specs.Prelude.{ℕ, ◌≡◌, ◌≤◌, ◌<◌, List, [], map, length, Option, Some, Result, Ok, Err, MatchResult}
-use Rattle.expr_tokens.specs.Tokens.{Token, Placed, AreTokens}
+use Rattle.std.specs.Prelude.{ℕ, ◌≡◌, ◌≤◌, ◌<◌, List, [], map, length, Some, Result, MatchResult}
+use Rattle.expr_tokens.specs.Tokens.{Placed, AreTokens}
 use Rattle.expr_read.specs.declared.fault.ExprFault.{ExprFault}
 use Rattle.expr_read.specs.declared.fault.ExprCause.{ExprCause}
 use Rattle.expr_read.specs.declared.fault.ExprCause.TheVariants.{TooLong, BadChar, NumberRange, TooDeep, UnknownName, Unexpected, Memory}

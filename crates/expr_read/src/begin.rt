@@ -159,7 +159,12 @@ fn number_first(n: u64) -> Option<Pending>
 }
 
 /// A token that begins an operand.
-pub(crate) fn operand<N: Names>(names: &N, limit: u8, depth: u8, token: Token<'_>) -> Option<Pending>
+pub(crate) fn operand<N: Names>(
+    names: &N,
+    limit: u8,
+    depth: u8,
+    token: Token<'_>,
+) -> Option<Pending>
     ensures { map_some pending result ≡ take_operand (N.scope names.now) limit depth (token_seen token.entry) }
 {
     match token {

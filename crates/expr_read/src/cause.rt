@@ -67,11 +67,7 @@ fn number_cause<N: Names>(names: &N, waits: &Stack<Symbol>, n: u64) -> ExprCause
 }
 
 /// The cause where a token isn't taken.
-pub(crate) fn cause_at<N: Names>(
-    names: &N,
-    waits: &Stack<Symbol>,
-    token: Token<'_>,
-) -> ExprCause
+pub(crate) fn cause_at<N: Names>(names: &N, waits: &Stack<Symbol>, token: Token<'_>) -> ExprCause
     ensures { (bs : List Built) → result ≡ cause_at (N.scope names.now) 64 waits.now bs (token_seen token.entry) }
 {
     match token {

@@ -59,7 +59,10 @@ fn fill_sign(limit: u8, symbol: Symbol, found: Sign) -> Option<Pending>
     match symbol {
         Symbol::Tail { level, depth } => operator(level, depth, found),
         Symbol::Named {
-            ty, call, depth, ..
+            ty,
+            call,
+            depth,
+            ..
         } => after_name(limit, depth, ty, call, found),
         _ => mark(symbol, found),
     }
@@ -84,9 +87,7 @@ fn fill_number(symbol: Symbol, n: u64) -> Option<Pending>
                 index,
                 version: n as u32,
             };
-            Some(Pending::One(Symbol::Do(Action::Ref(RefExpr::Entity(
-                found,
-            )))))
+            Some(Pending::One(Symbol::Do(Action::Ref(RefExpr::Entity(found)))))
         }
         _ => None,
     }
@@ -139,12 +140,7 @@ fn fill_word<N: Names>(names: &N, symbol: Symbol, name: &[u8]) -> Option<Pending
 }
 
 /// A token in the place of a symbol that begins no operand.
-fn fill_other<N: Names>(
-    names: &N,
-    limit: u8,
-    symbol: Symbol,
-    token: Token<'_>,
-) -> Option<Pending>
+fn fill_other<N: Names>(names: &N, limit: u8, symbol: Symbol, token: Token<'_>) -> Option<Pending>
     ensures { map_some pending result ≡ take_other (N.scope names.now) limit symbol (token_seen token.entry) }
 {
     match token {

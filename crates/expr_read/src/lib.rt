@@ -16,6 +16,8 @@ mod read;
 mod settle;
 mod stack;
 mod symbol;
+#[cfg(test)]
+mod tests;
 mod texts;
 mod tree;
 mod words;

@@ -41,11 +41,7 @@ fn push_three(
 }
 
 /// Waits for what stands behind a reference in a call, and then builds.
-fn push_after_ref(
-    waits: &mut Stack<Symbol>,
-    second: Symbol,
-    action: Action,
-) -> Result<(), Memory>
+fn push_after_ref(waits: &mut Stack<Symbol>, second: Symbol, action: Action) -> Result<(), Memory>
     ensures { OnOk result (waits.new ≡ Symbol.Ref false ∷ Symbol.Comma ∷ second ∷ Symbol.Close ∷ Symbol.Do action ∷ waits.old) }
 {
     waits.push(Symbol::Do(action))?;

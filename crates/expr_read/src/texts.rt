@@ -15,7 +15,7 @@ use crate::{Expr, ExprFault, RefExpr};
 use std::alloc::Global;
 
 /// What a text builds that is read from one symbol.
-fn read_from<N: Names>(
+pub(crate) fn read_from<N: Names>(
     alloc: Global,
     names: &N,
     start: Symbol,

@@ -1,11 +1,6 @@
-use Rattle.std.proofs.Common.{ℕ, ◌≡◌, List, ap, ◌∙◌, sym, refl}
-use Rattle.expr_tokens.specs.Tokens.{Token, word, number, sign}
+use Rattle.std.proofs.Common.{ap, ◌∙◌, sym}
 use Rattle.expr_tokens.specs.Seen.{token_seen}
-use Rattle.expr_tokens.specs.declared.sign.Sign.{Sign}
-use Rattle.expr_read.specs.declared.symbol.Symbol.{Symbol}
-use Rattle.expr_read.specs.declared.symbol.Symbol.TheVariants as wait
-use Rattle.expr_read.specs.Machine.{take_other, take_word, take_number}
-use Rattle.expr_read.specs.Scopes.{Scope}
+use Rattle.expr_read.specs.Machine.{take_other}
 use Rattle.expr_read.proofs.fill.fill_other.Goals as goal
 
 pub returns-in-Sign : goal.returns-in-Sign

@@ -1,6 +1,3 @@
-use Rattle.std.proofs.Common.{refl, [], ◌∷◌, false, subst, sym, ap}
-use Rattle.expr_read.specs.declared.symbol.Symbol.TheVariants as wait
-use Rattle.expr_read.specs.Languages.{exprs, refs}
 use Rattle.expr_read.proofs.Starts.{expr_fault, ref_fault}
 use Rattle.expr_read.proofs.laws.stops_at_the_first_fault.Goals as goal
 

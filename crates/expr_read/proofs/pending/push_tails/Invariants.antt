@@ -1,4 +1,4 @@
-use Rattle.std.proofs.Common.{ℕ, ◌≡◌, ◌++◌}
+use Rattle.std.proofs.Common.{◌≡◌, ◌++◌}
 use Rattle.expr_read.specs.Machine.{tails}
 use Rattle.expr_read.proofs.pending.push_tails.Given as goal
 

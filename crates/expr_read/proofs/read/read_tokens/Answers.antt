@@ -1,4 +1,4 @@
-use Rattle.std.proofs.Common.{ℕ, ◌≡◌, ◌⊎◌, ◌<◌, ◌≤◌, [], List, map, length, get_or, Option, Some, Result, Err, MatchResult, sym, ap, ◌∙◌, refl, arith, rules}
+use Rattle.std.proofs.Common.{◌≡◌, [], List, Option, Some, sym, ap, arith}
 use Rattle.std.proofs.lemmas.Result.{MatchResult-weaker, err_from_is_err_and}
 use Rattle.expr_read.specs.Machine.{State, steps}
 use Rattle.expr_read.specs.declared.symbol.Symbol.{Symbol}

@@ -1,5 +1,4 @@
-use Rattle.std.proofs.Common.{ℕ, ◌≡◌, [], List, map, take, Some}
-use Rattle.expr_tokens.specs.Seen.{seen}
+use Rattle.std.proofs.Common.{◌≡◌, [], Some}
 use Rattle.expr_read.specs.Machine.{steps}
 use Rattle.expr_read.proofs.TokenSteps.{token_front}
 use Rattle.expr_read.proofs.read.read_tokens.Given as goal

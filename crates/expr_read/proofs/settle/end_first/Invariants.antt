@@ -1,4 +1,4 @@
-use Rattle.std.proofs.Common.{ℕ, ◌≡◌, drop}
+use Rattle.std.proofs.Common.{◌≡◌, drop}
 use Rattle.expr_read.specs.Reader.{ended_first}
 use Rattle.expr_read.proofs.settle.end_first.Given as goal
 

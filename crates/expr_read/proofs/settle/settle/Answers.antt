@@ -1,4 +1,4 @@
-use Rattle.std.proofs.Common.{ℕ, suc, ◌≡◌, ◌++◌, List, drop, Option, Some, sym, ap, ◌∙◌, add-one}
+use Rattle.std.proofs.Common.{ℕ, suc, ◌≡◌, ◌++◌, List, drop, Option, Some, ap, ◌∙◌, add-one}
 use Rattle.std.proofs.lemmas.List.{drop-drop}
 use Rattle.expr_read.specs.declared.symbol.Symbol.{Symbol}
 use Rattle.expr_read.specs.declared.symbol.Built.{Built}
