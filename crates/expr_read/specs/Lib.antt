@@ -7,3 +7,6 @@ pub mod Languages
 pub mod Machine
 pub mod Meaning
 pub mod Scopes
+pub mod Reader
+pub mod Readings
+pub mod Lengths

@@ -1,15 +1,17 @@
 //! Laws of the grammar: a text has one derivation, and a machine with a stack reads exactly the texts.
 ghost use Rattle.std.specs.Prelude.{◌≡◌, ℕ, List, [], ◌∷◌, ◌↔◌, Bool, false, Some};
-ghost use Rattle.expr_tokens.specs.Tokens.{Token};
+ghost use Rattle.expr_tokens.specs.Tokens.{Token, Placed};
+ghost use Rattle.expr_read.specs.declared.fault.ExprCause.{ExprCause};
 ghost use Rattle.expr_read.specs.declared.symbol.Symbol.TheVariants as wait;
 ghost use Rattle.expr_read.specs.declared.symbol.Built.{Built};
 ghost use Rattle.expr_read.specs.declared.symbol.Built.TheVariants as built;
 ghost use Rattle.expr_read.specs.Fitting.{FitsExpr, FitsRef};
 ghost use Rattle.expr_read.specs.Grammar.{Syntax, expr, Ref, spell, spell_ref};
-ghost use Rattle.expr_read.specs.Faults.{CanGoOn};
+ghost use Rattle.expr_read.specs.Faults.{CanGoOn, IsFirstFault};
 ghost use Rattle.expr_read.specs.Languages.{exprs, refs};
 ghost use Rattle.expr_read.specs.Machine.{State, run, steps};
 ghost use Rattle.expr_read.specs.Meaning.{meaning, meaning_ref};
+ghost use Rattle.expr_read.specs.Reader.{Stops};
 ghost use Rattle.expr_read.specs.Scopes.{Scope, IsLawful};
 
 /// Tokens have one derivation at most, as an expression and as a reference.
@@ -37,4 +39,12 @@ pub fn goes_on_with_the_grammar()
         CanGoOn (exprs s) limit front ↔ ((st : State) × (steps s limit (record { waits = wait.Level 5 0 ∷ []; built = [] }) front ≡ Some st)) }
     ensures refs { (s : Scope) → IsLawful s → (limit : ℕ) (front : List Token) →
         CanGoOn (refs s) limit front ↔ ((st : State) × (steps s limit (record { waits = wait.Ref false ∷ []; built = [] }) front ≡ Some st)) }
+{}
+
+/// Where the machine stops there is the first fault of the text, with the cause that the next token has.
+pub fn stops_at_the_first_fault()
+    ensures exprs { (s : Scope) → IsLawful s → (limit : ℕ) (tokens : List Placed) (end : ℕ) (cause : ExprCause) (at : ℕ) →
+        Stops s limit (wait.Level 5 0 ∷ []) tokens end cause at → IsFirstFault (exprs s) limit tokens end cause at }
+    ensures refs { (s : Scope) → IsLawful s → (limit : ℕ) (tokens : List Placed) (end : ℕ) (cause : ExprCause) (at : ℕ) →
+        Stops s limit (wait.Ref false ∷ []) tokens end cause at → IsFirstFault (refs s) limit tokens end cause at }
 {}

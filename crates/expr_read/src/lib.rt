@@ -1,18 +1,32 @@
 //! The little language of scenarios: its texts, and the trees that they mean.
 #![tactic(auto)]
 
+mod begin;
+mod build;
+mod cause;
 mod chain;
 mod fault;
+mod fill;
 mod fronts;
 mod laws;
+mod names;
+mod pending;
 mod places;
+mod read;
+mod settle;
+mod stack;
 mod symbol;
+#[cfg(test)]
+mod tests;
+mod texts;
 mod tree;
 mod words;
 
 pub use chain::read_chain;
 pub use fault::{ExprCause, ExprFault};
-pub use laws::{goes_on_with_the_grammar, machine_reads_the_grammar, one_derivation};
+pub use laws::{
+    goes_on_with_the_grammar, machine_reads_the_grammar, one_derivation, stops_at_the_first_fault,
+};
 pub use tree::{
     Assign, BinaryOp, CommandText, Expr, PartExpr, RefExpr, Switch, UnaryOp, ValueExpr, Variable,
 };

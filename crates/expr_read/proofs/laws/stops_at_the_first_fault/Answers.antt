@@ -1,0 +1,8 @@
+use Rattle.expr_read.proofs.Starts.{expr_fault, ref_fault}
+use Rattle.expr_read.proofs.laws.stops_at_the_first_fault.Goals as goal
+
+pub returns-clause-exprs : goal.returns-clause-exprs
+returns-clause-exprs c = λ s lawful limit tokens end cause at stops. expr_fault s lawful limit tokens end cause at stops
+
+pub returns-clause-refs : goal.returns-clause-refs
+returns-clause-refs c = λ s lawful limit tokens end cause at stops. ref_fault s lawful limit tokens end cause at stops
