@@ -6,6 +6,7 @@ mod Prefixes
 mod ReadExprs
 mod ReadRefs
 mod Runs
+mod ScopeLaws
 mod SignFacts
 mod Takes
 mod TokenFronts

@@ -6,4 +6,5 @@ pub mod Grammar
 pub mod Languages
 pub mod Machine
 pub mod Meaning
+pub mod ScopeOf
 pub mod Scopes

@@ -1,0 +1,44 @@
+//! What the names of a text stand for, where it stands.
+ghost use Rattle.std.specs.Prelude.{◌≡◌};
+ghost use Rattle.expr_read.specs.Scopes.{Scope};
+
+use crate::{Call, FieldUse, RefExpr, TypeUse, Variable};
+use ent_types::TypeId;
+
+/// What the names of a text stand for. Its meaning is a scope of the definitions.
+pub(crate) trait Names {
+    /// The scope.
+    ghost scope: { Self → Scope };
+
+    /// The variable of this name.
+    fn variable(&self, name: &[u8]) -> Option<Variable>
+        ensures { result ≡ (scope self.now).variable name.now };
+
+    /// The call of this name that may stand here.
+    fn call(&self, name: &[u8]) -> Option<Call>
+        ensures { result ≡ (scope self.now).call name.now };
+
+    /// The reference that the name alone is; `made` says whether a made name fits.
+    fn reference(&self, made: bool, name: &[u8]) -> Option<RefExpr>
+        ensures { result ≡ (scope self.now).reference made name.now };
+
+    /// The known type of this name.
+    fn find(&self, name: &[u8]) -> Option<TypeId>
+        ensures { result ≡ (scope self.now).find name.now };
+
+    /// The place of the type's field of this name, where it may be named so.
+    fn field(&self, role: FieldUse, ty: TypeId, name: &[u8]) -> Option<u8>
+        ensures { result ≡ (scope self.now).field role ty name.now };
+
+    /// Says whether some field of the type may be named so.
+    fn has_field(&self, role: FieldUse, ty: TypeId) -> bool
+        ensures { result ≡ (scope self.now).has_field role ty };
+
+    /// Says whether the type may be named so.
+    fn allows(&self, role: TypeUse, ty: TypeId) -> bool
+        ensures { result ≡ (scope self.now).allows role ty };
+
+    /// Says whether the type's field at this place is a ref field.
+    fn is_ref(&self, ty: TypeId, field: u8) -> bool
+        ensures { result ≡ (scope self.now).is_ref ty field };
+}

@@ -1,0 +1,337 @@
+//! What the names of a text stand for, by the place of the text.
+ghost use Rattle.std.specs.Prelude.{◌≡◌, ◌<◌, ◌≤◌, ◌&&◌, length, find, option_map, IfSome, if◌then◌else◌, Some, None};
+ghost use Rattle.std.specs.List.{list_any};
+ghost use Rattle.std.specs.Option.{option_copied};
+ghost use Rattle.ent_types.specs.Types.{same_name, is_ref_kind, kind_of_field};
+ghost use Rattle.ent_types.specs.Registries.{type_at};
+ghost use Rattle.expr_read.specs.ScopeOf.{is_system, variable_of, system_variable, plain_call, system_call, made_reference, own_reference, is_known, is_own, may_name, suits, suited_field, is_open, is_shared, is_scene_tag, may_stand, scope_of};
+ghost use Rattle.expr_read.specs.Scopes.{IsLawful};
+
+use crate::names::Names;
+use crate::places::{field_of, type_of};
+use crate::{BinaryOp, Call, FieldUse, RefExpr, TypeUse, Variable};
+use ent_types::{FieldInfo, FieldKind, Kind, Name, Registry, TypeId, TypeInfo, TypeSet};
+
+/// The number of the built-in type `SceneTag`.
+const SCENE_TAG: u16 = 2;
+
+/// Where a text stands.
+#[derive(Clone, Copy, Debug, PartialEq, Eq)]
+pub enum TextPlace {
+    /// A value of a spawn, which knows the number of the row.
+    Spawn,
+    /// A command of an event, which knows the frame.
+    Event,
+    /// A text of a system, which knows the own row.
+    System,
+}
+
+/// A name that an earlier command of the system makes.
+#[derive(Clone, Copy, Debug)]
+pub struct Made {
+    /// The name, which is neither `null` nor `self`.
+    pub name: Name,
+    /// The number of the command that makes it.
+    pub number: u32,
+    /// Whether that command is played back with the text's own.
+    pub same_buffer: bool,
+}
+
+/// What the names of a text stand for: the types that there are, where the text stands, the types that each visited
+/// row has, and the names that earlier commands make. The names are distinct, and the bound types are known.
+#[derive(Clone, Copy)]
+pub struct Scope<'a> {
+    /// The types.
+    pub registry: &'a Registry,
+    /// Where the text stands.
+    pub place: TextPlace,
+    /// The types whose values a system sees in each row.
+    pub bound: &'a TypeSet,
+    /// The names that earlier commands make.
+    pub made: &'a [Made],
+}
+
+/// Says whether a name is this word.
+fn is(name: &[u8], word: &[u8]) -> bool
+    ensures { result ≡ same_name name.now word.now }
+{
+    name == word
+}
+
+/// The variable of this name in a system.
+fn system_variable(name: &[u8]) -> Option<Variable>
+    ensures { result ≡ system_variable name.now }
+{
+    if is(name, b"frame") {
+        Some(Variable::Frame)
+    } else if is(name, b"chunk") {
+        Some(Variable::Chunk)
+    } else if is(name, b"row") {
+        Some(Variable::Row)
+    } else if is(name, b"index") {
+        Some(Variable::Index)
+    } else if is(name, b"version") {
+        Some(Variable::Version)
+    } else {
+        None
+    }
+}
+
+/// The call of this name that asks nothing of the world.
+fn plain_call(name: &[u8]) -> Option<Call>
+    ensures { result ≡ plain_call name.now }
+{
+    if is(name, b"min") {
+        Some(Call::Two(BinaryOp::Min))
+    } else if is(name, b"max") {
+        Some(Call::Two(BinaryOp::Max))
+    } else if is(name, b"pick") {
+        Some(Call::Pick)
+    } else {
+        None
+    }
+}
+
+/// The call of this name in a system.
+fn system_call(name: &[u8]) -> Option<Call>
+    ensures { result ≡ system_call name.now }
+{
+    if is(name, b"get") {
+        Some(Call::Get)
+    } else if is(name, b"alive") {
+        Some(Call::Alive)
+    } else if is(name, b"has") {
+        Some(Call::Has)
+    } else if is(name, b"same") {
+        Some(Call::Same)
+    } else if is(name, b"on") {
+        Some(Call::On)
+    } else {
+        plain_call(name)
+    }
+}
+
+/// The name as an earlier command of the same buffer makes it.
+fn made_named<'a>(made: &'a [Made], name: &[u8]) -> Option<&'a Made>
+    ensures { option_copied result ≡ find (λ m. m.same_buffer && same_name name.now m.name) made.now }
+{
+    made.iter()
+        .find(|m| m.same_buffer && is(name, m.name.as_bytes()))
+}
+
+/// What an earlier command of the same buffer makes under this name.
+fn made_reference(made: &[Made], name: &[u8]) -> Option<RefExpr>
+    ensures { result ≡ made_reference made.now name.now }
+{
+    let found = made_named(made, name)?;
+    Some(RefExpr::Made(found.number))
+}
+
+/// The reference that a name alone is in a system.
+fn own_reference(made: &[Made], fits: bool, name: &[u8]) -> Option<RefExpr>
+    ensures { result ≡ own_reference made.now fits name.now }
+{
+    if is(name, b"self") {
+        Some(RefExpr::Me)
+    } else if fits {
+        made_reference(made, name)
+    } else {
+        None
+    }
+}
+
+/// Says whether a field holds a reference.
+fn is_ref_kind(kind: FieldKind) -> bool
+    ensures { result ≡ is_ref_kind kind }
+{
+    match kind {
+        FieldKind::I32 | FieldKind::I64 => false,
+        FieldKind::Ref => true,
+    }
+}
+
+/// Says whether a field that holds this may be named so.
+fn suits(role: FieldUse, kind: FieldKind) -> bool
+    ensures { result ≡ suits role kind }
+{
+    match role {
+        FieldUse::Number | FieldUse::Looked => !is_ref_kind(kind),
+        FieldUse::Entity => is_ref_kind(kind),
+        FieldUse::Assigned => true,
+    }
+}
+
+/// Says whether some field may be named so.
+fn has_suited(role: FieldUse, fields: &[FieldInfo]) -> bool
+    ensures { result ≡ list_any (λ f. suits role f.kind) fields.now }
+{
+    fields.iter().any(|f| suits(role, f.kind))
+}
+
+/// The kind of a field, where it is there.
+fn kind_of_field(info: &TypeInfo, at: usize) -> FieldKind
+    ensures { result ≡ kind_of_field info.now at }
+{
+    match info.fields.get(at) {
+        None => FieldKind::I32,
+        Some(field) => field.kind,
+    }
+}
+
+/// The place of the field of this name, where it may be named so.
+fn suited_field(role: FieldUse, info: &TypeInfo, name: &[u8]) -> Option<u8>
+    requires { length info.now.fields ≤ 64 }
+    ensures { result ≡ suited_field role info.now name.now }
+{
+    let at = field_of(name, info)?;
+    if !suits(role, kind_of_field(info, at)) {
+        return None;
+    }
+    Some(at as u8)
+}
+
+/// Says whether a type of this kind has one value for all rows of a block.
+fn is_shared(kind: Kind) -> bool
+    ensures { result ≡ is_shared kind }
+{
+    match kind {
+        Kind::Plain | Kind::Tag | Kind::Cleanup => false,
+        Kind::Shared => true,
+    }
+}
+
+impl TextPlace {
+    fn is_system(self) -> bool
+        ensures { result ≡ is_system self }
+    {
+        match self {
+            TextPlace::Spawn | TextPlace::Event => false,
+            TextPlace::System => true,
+        }
+    }
+}
+
+impl Scope<'_> {
+    /// Says whether the registry has the type.
+    fn is_known(&self, ty: TypeId) -> bool
+        ensures value { result ≡ is_known self.now.registry.now ty }
+        ensures most { length self.now.registry.now ≤ 256 }
+    {
+        usize::from(ty.0) < self.registry.len()
+    }
+
+    /// Says whether each row that the system visits has the type.
+    fn is_own(&self, ty: TypeId) -> bool
+        requires { ty.0 < 256 }
+        ensures { result ≡ is_own self.now.place self.now.bound.now ty }
+    {
+        self.place.is_system() && self.bound.has(ty)
+    }
+
+    /// Says whether fields of a type of this kind may be named so.
+    fn may_name(&self, role: FieldUse, ty: TypeId, kind: Kind) -> bool
+        requires { ty.0 < 256 }
+        ensures { result ≡ may_name self.now.place self.now.bound.now role ty kind }
+    {
+        match role {
+            FieldUse::Number | FieldUse::Entity => self.is_own(ty),
+            FieldUse::Looked => true,
+            FieldUse::Assigned => self.is_own(ty) && kind.has_column(),
+        }
+    }
+
+    /// The type, where its fields may be named so.
+    fn open_type(&self, role: FieldUse, ty: TypeId) -> Option<&TypeInfo>
+        ensures value { option_copied result ≡ (if is_open self.now.registry.now self.now.place self.now.bound.now role ty then Some (type_at self.now.registry.now ty.0) else None) }
+        ensures width { IfSome result (λ info. length info.now.fields ≤ 64) }
+    {
+        if !self.is_known(ty) {
+            return None;
+        }
+        let info = self.registry.info(ty);
+        if !self.may_name(role, ty, info.kind) {
+            return None;
+        }
+        Some(info)
+    }
+
+    /// Says whether a type that is known may be named so.
+    fn may_stand(&self, role: TypeUse, ty: TypeId, info: &TypeInfo) -> bool
+        requires { ty.0 < 256 }
+        ensures { result ≡ may_stand self.now.place self.now.bound.now role ty info.now }
+    {
+        match role {
+            TypeUse::Asked => true,
+            TypeUse::Own => !is_shared(info.kind),
+            TypeUse::Switched => self.is_own(ty) && info.enableable,
+            TypeUse::Removed | TypeUse::Added => ty.0 != SCENE_TAG,
+            TypeUse::Enabled => info.enableable,
+            TypeUse::Set => info.kind.has_column(),
+            TypeUse::Shared => is_shared(info.kind) && ty.0 != SCENE_TAG,
+        }
+    }
+}
+
+impl Scope<'_> {
+    /// The theory of the language holds in this scope.
+    pub(crate) fn law(&self)
+        ensures { IsLawful (scope_of self.now.registry.now self.now.place self.now.bound.now self.now.made.now) }
+    {
+        let _ = self.registry.types();
+    }
+}
+
+impl Names for Scope<'_> {
+    ghost scope = { λ s. scope_of s.registry.now s.place s.bound.now s.made.now };
+
+    fn variable(&self, name: &[u8]) -> Option<Variable> {
+        match self.place {
+            TextPlace::Spawn if is(name, b"n") => Some(Variable::N),
+            TextPlace::Event if is(name, b"frame") => Some(Variable::Frame),
+            TextPlace::System => system_variable(name),
+            _ => None,
+        }
+    }
+
+    fn call(&self, name: &[u8]) -> Option<Call> {
+        if self.place.is_system() {
+            system_call(name)
+        } else {
+            plain_call(name)
+        }
+    }
+
+    fn reference(&self, made: bool, name: &[u8]) -> Option<RefExpr> {
+        if is(name, b"null") {
+            Some(RefExpr::Null)
+        } else if self.place.is_system() {
+            own_reference(self.made, made, name)
+        } else {
+            None
+        }
+    }
+
+    fn find(&self, name: &[u8]) -> Option<TypeId> {
+        let at = type_of(name, self.registry)?;
+        Some(TypeId(at as u16))
+    }
+
+    fn field(&self, role: FieldUse, ty: TypeId, name: &[u8]) -> Option<u8> {
+        suited_field(role, self.open_type(role, ty)?, name)
+    }
+
+    fn has_field(&self, role: FieldUse, ty: TypeId) -> bool {
+        match self.open_type(role, ty) {
+            None => false,
+            Some(info) => has_suited(role, info.fields.as_slice()),
+        }
+    }
+
+    fn allows(&self, role: TypeUse, ty: TypeId) -> bool {
+        self.is_known(ty) && self.may_stand(role, ty, self.registry.info(ty))
+    }
+
+    fn is_ref(&self, ty: TypeId, field: u8) -> bool {
+        self.is_known(ty) && is_ref_kind(kind_of_field(self.registry.info(ty), usize::from(field)))
+    }
+}
