@@ -1,9 +1,9 @@
 -- Whatever the machine waits for in the middle of a text can be completed.
-use Rattle.std.proofs.Common.{ℕ, zero, suc, ◌≡◌, List, [], ◌∷◌, ◌++◌, Bool, true, false, ◌&&◌, ◌||◌, Option, Some, None, refl, ◌∙◌, lit<}
+use Rattle.std.proofs.Common.{ℕ, zero, suc, ◌≡◌, ◌<◌, ◌^◌, List, [], ◌∷◌, ◌++◌, Bool, true, false, ◌&&◌, ◌||◌, Option, Some, None, refl, sym, ap, ◌∙◌, subst, arith, lit<}
 use Rattle.std.proofs.lemmas.Bool.{false≢true, ltb-true}
 use Rattle.std.specs.Prelude.{nat_lt, is_some, pos, codes}
 use Rattle.ent_types.specs.declared.entity.TypeId.{TypeId}
-use Rattle.expr_tokens.specs.Tokens.{Token, word, number as numeral, sign}
+use Rattle.expr_tokens.specs.Tokens.{Token, word, number as numeral, sign, bad}
 use Rattle.expr_tokens.specs.declared.sign.Sign.TheVariants.{Open, Close, Comma, Dot, Colon, Assign}
 use Rattle.expr_read.specs.declared.symbol.Symbol.{Symbol}
 use Rattle.expr_read.specs.declared.symbol.Symbol.TheVariants as wait
@@ -23,7 +23,7 @@ use Rattle.expr_read.specs.declared.words.TypeUse.{TypeUse}
 use Rattle.expr_read.specs.declared.words.TypeUse.TheVariants.{Asked, Own}
 use Rattle.expr_read.specs.Grammar.{called, plain, number}
 use Rattle.expr_read.specs.Scopes.{Scope, IsLawful}
-use Rattle.expr_read.specs.Machine.{may_end, ended, run, finish, arguments, behind_field, value_place, apply, field_type}
+use Rattle.expr_read.specs.Machine.{take, may_end, ended, run, finish, settle, arguments, behind_field, value_place, apply, field_type}
 use Rattle.expr_read.proofs.Runs.{run_take, run_end, run_do, stops}
 use Rattle.expr_read.proofs.Takes.{take_close, take_comma, take_dot_sign, take_becomes, take_dot, take_arguments, take_field, take_type_field, take_ref_dot, take_colon, take_version, named_leaves}
 use Rattle.expr_read.proofs.Complete.{level_split, complete, complete_ref, stop_tail, end_plain, type_alone}

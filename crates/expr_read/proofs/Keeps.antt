@@ -1,12 +1,15 @@
 -- Each step of the machine leaves what can be completed.
-use Rattle.std.proofs.Common.{ℕ, zero, suc, ◌≡◌, List, [], ◌∷◌, ◌++◌, ⊎_elim, Bool, true, false, cond, Option, Some, None, refl, sym, subst, append_assoc}
+use Rattle.std.proofs.Common.{ℕ, zero, suc, ◌≡◌, ◌<◌, List, [], ◌∷◌, ◌++◌, ◌⊎◌, ⊎_elim, Bool, true, false, ◌&&◌, ◌||◌, cond, Option, Some, None, refl, sym, ap, ◌∙◌, subst, append_assoc}
+use Rattle.std.proofs.lemmas.Bool.{false≢true}
+use Rattle.std.specs.Prelude.{is_some, nat_lt}
 use Rattle.ent_types.specs.declared.entity.TypeId.{TypeId}
 use Rattle.expr_tokens.specs.Tokens.{Token, word, number as numeral, sign, bad}
-use Rattle.expr_tokens.specs.declared.sign.Sign.TheVariants.{Close, Comma, Dot, Assign}
+use Rattle.expr_tokens.specs.declared.sign.Sign.TheVariants.{Open, Close, Comma, Dot, Colon, Assign}
 use Rattle.expr_read.specs.declared.symbol.Symbol.{Symbol}
 use Rattle.expr_read.specs.declared.symbol.Symbol.TheVariants as wait
 use Rattle.expr_read.specs.declared.symbol.Action.TheVariants as act
 use Rattle.expr_read.specs.declared.symbol.Built.{Built}
+use Rattle.expr_read.specs.declared.tree.RefExpr.TheVariants as refs
 use Rattle.expr_read.specs.declared.words.Call.{Call}
 use Rattle.expr_read.specs.declared.words.Call.TheVariants as calls
 use Rattle.expr_read.specs.declared.words.FieldUse.{FieldUse}
@@ -14,9 +17,9 @@ use Rattle.expr_read.specs.declared.words.FieldUse.TheVariants.{Number as Number
 use Rattle.expr_read.specs.declared.words.TypeUse.{TypeUse}
 use Rattle.expr_read.specs.Fitting.{associates}
 use Rattle.expr_read.specs.Scopes.{Scope, IsLawful}
-use Rattle.expr_read.specs.Machine.{State, take, may_end, ended, settle, onward, tails, arguments, behind_field, value_place, kept, field_type, take_operand}
-use Rattle.expr_read.proofs.ReadRefs.{map_inv, kept_inv, ref_inv, colon_inv, version_inv, dot_inv}
-use Rattle.expr_read.proofs.ReadExprs.{Begun, by_number, by_open, by_sign, by_name, begun, Followed, by_dot, by_call, followed, operated}
+use Rattle.expr_read.specs.Machine.{State, take, may_end, ended, settle, onward, tails, arguments, behind_field, value_place, map_some, kept, field_type, take_operand}
+use Rattle.expr_read.proofs.ReadRefs.{map_inv, kept_inv, ref_inv, colon_inv, version_inv, dot_inv, BeginsNumber, BeginsName}
+use Rattle.expr_read.proofs.ReadExprs.{Begun, by_number, by_open, by_sign, by_name, begun, level_takes, Followed, by_dot, by_call, followed, operated}
 use Rattle.expr_read.proofs.Completions.{soft, Good, Ready, Needs, CanCall}
 
 abbrev waits_of : State → List Symbol

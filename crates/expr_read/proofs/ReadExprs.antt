@@ -1,26 +1,27 @@
 -- What the machine reads as an expression is one that fits.
-use Rattle.std.proofs.Common.{ℕ, zero, suc, ◌≡◌, ◌<◌, ◌≤◌, ◌^◌, List, [], ◌∷◌, ◌++◌, ◌⊎◌, inl, inr, ⊎_elim, Bool, true, false, ◌&&◌, ◌||◌, cond, length, Option, Some, None, refl, sym, ap, ◌∙◌, arith}
-use Rattle.std.proofs.lemmas.Bool.{ltb-true, eqb-true}
+use Rattle.std.proofs.Common.{ℕ, zero, suc, ◌≡◌, ◌<◌, ◌≤◌, ◌+◌, ◌^◌, List, [], ◌∷◌, ◌++◌, ◌⊎◌, inl, inr, ⊎_elim, Bool, true, false, ◌&&◌, ◌||◌, cond, length, Option, Some, None, refl, sym, ap, ◌∙◌, subst, arith}
+use Rattle.std.proofs.lemmas.Bool.{false≢true, ltb-true, eqb-true}
 use Rattle.std.specs.Prelude.{nat_lt, nat_eq, is_some, pos}
 use Rattle.ent_types.specs.declared.entity.TypeId.{TypeId}
 use Rattle.expr_tokens.specs.Tokens.{Token, word, number as numeral, sign, bad}
 use Rattle.expr_tokens.specs.declared.sign.Sign.{Sign}
-use Rattle.expr_tokens.specs.declared.sign.Sign.TheVariants.{Open, Close, Comma, Dot}
+use Rattle.expr_tokens.specs.declared.sign.Sign.TheVariants.{Open, Close, Comma, Dot, Colon, Plus, Minus, Times, Divide, Rest, Not, Assign, Equal, NotEqual, Less, LessEqual, Greater, GreaterEqual, And, Or}
 use Rattle.expr_read.specs.declared.symbol.Symbol.{Symbol}
 use Rattle.expr_read.specs.declared.symbol.Symbol.TheVariants as wait
 use Rattle.expr_read.specs.declared.symbol.Action.TheVariants as act
 use Rattle.expr_read.specs.declared.symbol.Built.{Built}
 use Rattle.expr_read.specs.declared.tree.BinaryOp.{BinaryOp}
 use Rattle.expr_read.specs.declared.tree.UnaryOp.{UnaryOp}
+use Rattle.expr_read.specs.declared.tree.UnaryOp.TheVariants as unary
 use Rattle.expr_read.specs.declared.tree.Variable.{Variable}
 use Rattle.expr_read.specs.declared.words.Call.{Call}
 use Rattle.expr_read.specs.declared.words.Call.TheVariants as calls
 use Rattle.expr_read.specs.declared.words.FieldUse.TheVariants.{Number as NumberField, Looked}
 use Rattle.expr_read.specs.declared.words.TypeUse.TheVariants.{Asked, Own}
 use Rattle.expr_read.specs.Fitting.{operator_of, sign_of, associates, MayGoOn, Fits}
-use Rattle.expr_read.specs.Grammar.{operand, suffix, expr, tail, Syntax, number, group, signed, named, alone, field, two, pick, get, alive, has, same, on, lone, chain, stop, more, spell, spell_ref}
+use Rattle.expr_read.specs.Grammar.{Sort, operand, suffix, expr, tail, Syntax, number, group, signed, named, alone, field, two, pick, get, alive, has, same, on, lone, chain, stop, more, spell, spell_ref}
 use Rattle.expr_read.specs.Scopes.{Scope}
-use Rattle.expr_read.specs.Machine.{take, may_end, run, take_operand, take_operator, take_call, field_type, arguments, begins_sign, begins_signed}
+use Rattle.expr_read.specs.Machine.{State, take, may_end, ended, run, map_some, take_operand, take_operator, take_named, take_call, tails, kept, field_type, arguments, when, begins_sign, begins_signed}
 use Rattle.expr_read.proofs.Runs.{run_do}
 use Rattle.expr_read.proofs.Complete.{level_split}
 use Rattle.expr_read.proofs.ReadRefs.{Taken, Ended, way, must_take, when_inv, map_inv, kept_inv, some_inv, Read, read_close, read_comma, read_dot, read_field, read_type, read_type_field, read_ref, left}

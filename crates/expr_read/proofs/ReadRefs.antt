@@ -1,25 +1,32 @@
 -- What the machine reads is a tree that fits.
-use Rattle.std.proofs.Common.{ℕ, ◌≡◌, ◌<◌, ◌^◌, List, [], ◌∷◌, ◌++◌, ◌⊎◌, inl, inr, ⊎_elim, Bool, true, false, ◌||◌, cond, length, Option, Some, None, refl, sym, ap, ◌∙◌, subst, arith}
-use Rattle.std.proofs.lemmas.Bool.{false≢true, ltb-true}
-use Rattle.std.specs.Prelude.{nat_lt, is_some}
+use Rattle.std.proofs.Common.{ℕ, zero, suc, ◌≡◌, ◌<◌, ◌≤◌, ◌+◌, ◌^◌, List, [], ◌∷◌, ◌++◌, ◌⊎◌, inl, inr, ⊎_elim, Bool, true, false, ◌&&◌, ◌||◌, cond, length, Option, Some, None, refl, sym, ap, ◌∙◌, subst, arith}
+use Rattle.std.proofs.lemmas.Bool.{false≢true, ltb-true, eqb-true}
+use Rattle.std.specs.Prelude.{nat_lt, nat_eq, is_some, pos}
 use Rattle.ent_types.specs.declared.entity.TypeId.{TypeId}
 use Rattle.expr_tokens.specs.Tokens.{Token, word, number as numeral, sign, bad}
 use Rattle.expr_tokens.specs.declared.sign.Sign.{Sign}
-use Rattle.expr_tokens.specs.declared.sign.Sign.TheVariants.{Close, Comma, Dot, Colon, Assign}
+use Rattle.expr_tokens.specs.declared.sign.Sign.TheVariants.{Open, Close, Comma, Dot, Colon, Plus, Minus, Times, Divide, Rest, Not, Assign, Equal, NotEqual, Less, LessEqual, Greater, GreaterEqual, And, Or}
 use Rattle.expr_read.specs.declared.symbol.Symbol.{Symbol}
 use Rattle.expr_read.specs.declared.symbol.Symbol.TheVariants as wait
 use Rattle.expr_read.specs.declared.symbol.Action.TheVariants as act
 use Rattle.expr_read.specs.declared.symbol.Built.{Built}
+use Rattle.expr_read.specs.declared.tree.BinaryOp.{BinaryOp}
+use Rattle.expr_read.specs.declared.tree.UnaryOp.{UnaryOp}
+use Rattle.expr_read.specs.declared.tree.UnaryOp.TheVariants as unary
+use Rattle.expr_read.specs.declared.tree.Variable.{Variable}
 use Rattle.expr_read.specs.declared.tree.RefExpr.{RefExpr}
 use Rattle.expr_read.specs.declared.tree.RefExpr.TheVariants as refs
+use Rattle.expr_read.specs.declared.words.Call.{Call}
+use Rattle.expr_read.specs.declared.words.Call.TheVariants as calls
 use Rattle.expr_read.specs.declared.words.FieldUse.{FieldUse}
-use Rattle.expr_read.specs.declared.words.FieldUse.TheVariants.{Entity as EntityField}
+use Rattle.expr_read.specs.declared.words.FieldUse.TheVariants.{Number as NumberField, Entity as EntityField, Looked, Assigned}
 use Rattle.expr_read.specs.declared.words.TypeUse.{TypeUse}
-use Rattle.expr_read.specs.Fitting.{FitsRef}
-use Rattle.expr_read.specs.Grammar.{plain, own, Ref, entity, called, spell_ref}
+use Rattle.expr_read.specs.Fitting.{operator_of, sign_of, associates, MayGoOn, FitsRef, FitsType, FitsField, Fits}
+use Rattle.expr_read.specs.Grammar.{AfterName, plain, own, Ref, entity, called, Sort, operand, suffix, expr, tail, Syntax, number, group, signed, named, alone, field, two, pick, get, alive, has, same, on, lone, chain, stop, more, spell, spell_ref, spell_after_name}
 use Rattle.expr_read.specs.Scopes.{Scope}
-use Rattle.expr_read.specs.Machine.{State, take, may_end, ended, settle, finish, run, onward, go_on, map_some, kept, field_type, when, behind_field}
+use Rattle.expr_read.specs.Machine.{State, take, may_end, ended, settle, finish, run, onward, go_on, map_some, take_operand, take_operator, take_named, take_call, tails, kept, field_type, type_by, arguments, when, behind_field, begins_ref}
 use Rattle.expr_read.proofs.Runs.{run_do}
+use Rattle.expr_read.proofs.Complete.{level_split}
 
 module _ (s : Scope) (limit : ℕ) where
   -- a symbol takes the next token, or it ends

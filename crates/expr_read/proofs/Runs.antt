@@ -1,17 +1,22 @@
 -- How the machine runs over one token, and over none.
-use Rattle.std.proofs.Common.{ℕ, ◌≡◌, List, [], ◌∷◌, ◌++◌, Bool, true, false, cond, Option, Some, None, refl, ap}
-use Rattle.std.specs.Prelude.{nat_le}
+use Rattle.std.proofs.Common.{ℕ, zero, suc, ◌≡◌, ◌<◌, ◌≤◌, ◌+◌, List, [], ◌∷◌, ◌++◌, Bool, true, false, not, ◌&&◌, ◌||◌, cond, eqb, ltb, leb, Option, Some, None, refl, sym, ap, ◌∙◌, subst, arith, append_assoc}
+use Rattle.std.proofs.lemmas.Bool.{false≢true, lt-ltb, leb-true, ne_eqb}
+use Rattle.std.specs.Prelude.{nat_lt, nat_le, nat_eq, is_some}
+use Rattle.ent_types.specs.declared.entity.TypeId.{TypeId}
 use Rattle.expr_tokens.specs.Tokens.{Token, word, number, sign, bad}
 use Rattle.expr_tokens.specs.declared.sign.Sign.{Sign}
-use Rattle.expr_tokens.specs.declared.sign.Sign.TheVariants.{Open, Dot}
+use Rattle.expr_tokens.specs.declared.sign.Sign.TheVariants.{Open, Close, Comma, Dot, Colon, Plus, Minus, Times, Divide, Rest, Not, Assign, Equal, NotEqual, Less, LessEqual, Greater, GreaterEqual, And, Or}
 use Rattle.expr_read.specs.declared.symbol.Symbol.{Symbol}
 use Rattle.expr_read.specs.declared.symbol.Symbol.TheVariants as wait
 use Rattle.expr_read.specs.declared.symbol.Action.{Action}
 use Rattle.expr_read.specs.declared.symbol.Built.{Built}
 use Rattle.expr_read.specs.declared.tree.BinaryOp.{BinaryOp}
+use Rattle.expr_read.specs.declared.tree.Variable.{Variable}
+use Rattle.expr_read.specs.declared.tree.RefExpr.{RefExpr}
+use Rattle.expr_read.specs.declared.words.Call.{Call}
 use Rattle.expr_read.specs.Fitting.{operator_of}
 use Rattle.expr_read.specs.Scopes.{Scope}
-use Rattle.expr_read.specs.Machine.{take, may_end, ended, settle, finish, run, onward, go_on, when, apply}
+use Rattle.expr_read.specs.Machine.{take, may_end, ended, settle, finish, run, onward, go_on, State, map_some, take_operand, take_operator, take_named, tails, when, apply}
 
 pub when_true : {A : Type 0} (b : Bool) (x : A) → b ≡ true → when b x ≡ Some x
 when_true b x e = rw e refl

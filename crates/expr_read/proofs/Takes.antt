@@ -1,13 +1,15 @@
 -- Which symbol takes which token, for each tree that fits.
-use Rattle.std.proofs.Common.{ℕ, suc, ◌≡◌, ◌<◌, ◌≤◌, ◌^◌, List, [], ◌∷◌, Bool, true, false, ◌&&◌, ◌||◌, cond, eqb, Option, Some, None, refl, arith}
+use Rattle.std.proofs.Common.{ℕ, zero, suc, ◌≡◌, ◌<◌, ◌≤◌, ◌+◌, ◌^◌, List, [], ◌∷◌, ◌++◌, ◌⊎◌, Bool, true, false, not, ◌&&◌, ◌||◌, cond, eqb, ltb, leb, Option, Some, None, refl, sym, ap, ◌∙◌, subst, arith, append_assoc}
 use Rattle.std.proofs.lemmas.Bool.{false≢true, lt-ltb, leb-true, ne_eqb, eq-eqb}
-use Rattle.std.specs.Prelude.{nat_lt, is_some, pos}
+use Rattle.std.specs.Prelude.{nat_lt, nat_le, nat_eq, is_some, pos}
 use Rattle.ent_types.specs.declared.entity.TypeId.{TypeId}
 use Rattle.expr_tokens.specs.Tokens.{Token, word, number as numeral, sign, bad}
 use Rattle.expr_tokens.specs.declared.sign.Sign.{Sign}
-use Rattle.expr_tokens.specs.declared.sign.Sign.TheVariants.{Open, Close, Comma, Dot, Colon, Assign}
+use Rattle.expr_tokens.specs.declared.sign.Sign.TheVariants.{Open, Close, Comma, Dot, Colon, Plus, Minus, Times, Divide, Rest, Not, Assign, Equal, NotEqual, Less, LessEqual, Greater, GreaterEqual, And, Or}
+use Rattle.expr_read.specs.declared.symbol.Symbol.{Symbol}
 use Rattle.expr_read.specs.declared.symbol.Symbol.TheVariants as wait
 use Rattle.expr_read.specs.declared.symbol.Action.TheVariants as act
+use Rattle.expr_read.specs.declared.symbol.Built.{Built}
 use Rattle.expr_read.specs.declared.tree.BinaryOp.{BinaryOp}
 use Rattle.expr_read.specs.declared.tree.UnaryOp.{UnaryOp}
 use Rattle.expr_read.specs.declared.tree.Variable.{Variable}
@@ -15,13 +17,13 @@ use Rattle.expr_read.specs.declared.tree.RefExpr.{RefExpr}
 use Rattle.expr_read.specs.declared.tree.RefExpr.TheVariants as refs
 use Rattle.expr_read.specs.declared.words.Call.{Call}
 use Rattle.expr_read.specs.declared.words.FieldUse.{FieldUse}
-use Rattle.expr_read.specs.declared.words.FieldUse.TheVariants.{Number as NumberField, Entity as EntityField}
+use Rattle.expr_read.specs.declared.words.FieldUse.TheVariants.{Number as NumberField, Entity as EntityField, Looked, Assigned}
 use Rattle.expr_read.specs.declared.words.TypeUse.{TypeUse}
 use Rattle.expr_read.specs.Fitting.{operator_of, sign_of, associates, FitsField, FitsType, Fits}
 use Rattle.expr_read.specs.Grammar.{Syntax, suffix, alone, field, two, pick, get, alive, has, same, on}
 use Rattle.expr_read.specs.Scopes.{Scope, IsLawful}
-use Rattle.expr_read.specs.Machine.{take, take_operator, take_named, arguments, begins_sign, begins_signed, field_type, behind_field}
-use Rattle.expr_read.proofs.Runs.{Leaves, stops, stops_sign, stops_operator}
+use Rattle.expr_read.specs.Machine.{take, may_end, ended, map_some, take_operand, take_operator, take_named, take_call, tails, when, arguments, begins_sign, begins_signed, begins_named, begins_ref, field_type, type_by, behind_field}
+use Rattle.expr_read.proofs.Runs.{Leaves, stops, stops_sign, stops_operator, when_true}
 
 or_true : (b : Bool) → (b || true) ≡ true
 or_true true = refl

@@ -1,20 +1,22 @@
 -- Two trees that fit and have the same tokens are one.
-use Rattle.std.proofs.Common.{ℕ, zero, suc, ◌≡◌, ◌≤◌, List, [], ◌∷◌, Bool, true, false, Option, Some, None, refl, sym, ap, ◌∙◌, subst, arith}
+use Rattle.std.proofs.Common.{ℕ, zero, suc, ◌≡◌, ◌<◌, ◌≤◌, List, [], ◌∷◌, Bool, true, false, Option, Some, None, refl, sym, ap, ◌∙◌, subst, arith}
 use Rattle.std.proofs.lemmas.Bool.{false≢true, leb-true}
 use Rattle.std.specs.Prelude.{nat_le}
 use Rattle.ent_types.specs.declared.entity.TypeId.{TypeId}
-use Rattle.expr_tokens.specs.Tokens.{Token, word, sign}
+use Rattle.expr_tokens.specs.Tokens.{Token, word, number as numeral, sign, bad}
 use Rattle.expr_tokens.specs.declared.sign.Sign.{Sign}
-use Rattle.expr_tokens.specs.declared.sign.Sign.TheVariants.{Open, Close, Comma, Dot}
+use Rattle.expr_tokens.specs.declared.sign.Sign.TheVariants.{Open, Close, Comma, Dot, Colon}
 use Rattle.expr_read.specs.declared.tree.BinaryOp.{BinaryOp}
 use Rattle.expr_read.specs.declared.tree.UnaryOp.{UnaryOp}
 use Rattle.expr_read.specs.declared.tree.Variable.{Variable}
+use Rattle.expr_read.specs.declared.tree.RefExpr.{RefExpr}
+use Rattle.expr_read.specs.declared.words.Call.TheVariants as calls
 use Rattle.expr_read.specs.Fitting.{operator_of, sign_of, FitsRef, Fits}
-use Rattle.expr_read.specs.Grammar.{plain, own, Ref, entity, called, Sort, operand, suffix, expr, tail, Syntax, number, group, signed, named, alone, field, two, pick, get, alive, has, same, on, lone, chain, stop, more, spell, spell_ref}
+use Rattle.expr_read.specs.Grammar.{AfterName, plain, own, Ref, entity, called, Sort, operand, suffix, expr, tail, Syntax, number, group, signed, named, alone, field, two, pick, get, alive, has, same, on, lone, chain, stop, more, spell, spell_ref}
 use Rattle.expr_read.specs.Scopes.{Scope, IsLawful}
 use Rattle.expr_read.proofs.Runs.{stops, stops_sign, stops_operator}
 use Rattle.expr_read.proofs.Takes.{sign_stops}
-use Rattle.expr_read.proofs.Complete.{stops_tail}
+use Rattle.expr_read.proofs.Complete.{stops_tail, stops_lower}
 
 -- nothing that stops begins with a dot, an opening parenthesis or an operator of the level
 no_dot : (level : ℕ) (us rest : List Token) → stops level us ≡ true → us ≡ sign Dot ∷ rest → ⊥

@@ -1,5 +1,5 @@
 -- A whole text: the machine takes exactly the tokens of the trees that fit, and builds what they mean.
-use Rattle.std.proofs.Common.{ℕ, ◌≡◌, List, [], ◌∷◌, Bool, Some, refl, sym, ap, ◌∙◌}
+use Rattle.std.proofs.Common.{ℕ, ◌≡◌, List, [], ◌∷◌, Bool, true, false, Option, Some, None, refl, sym, ap, ◌∙◌}
 use Rattle.expr_tokens.specs.Tokens.{Token}
 use Rattle.expr_read.specs.declared.symbol.Symbol.TheVariants as wait
 use Rattle.expr_read.specs.declared.symbol.Built.{Built}

@@ -1,6 +1,6 @@
 -- The one derivation of a text, and its first fault.
-use Rattle.std.specs.Prelude.{ℕ, ◌≡◌, ◌≤◌, ◌+◌, ◌^◌, ◌⊎◌, List, [], ◌∷◌, ◌++◌, map}
-use Rattle.expr_tokens.specs.Tokens.{Token, word, number, sign, bad, Placed}
+use Rattle.std.specs.Prelude.{ℕ, ◌≡◌, ◌≤◌, ◌<◌, ◌+◌, ◌^◌, ◌⊎◌, List, [], ◌∷◌, ◌++◌, map, length}
+use Rattle.expr_tokens.specs.Tokens.{Token, word, number, sign, bad, Placed, AreTokens}
 use Rattle.expr_read.specs.declared.fault.ExprCause.{ExprCause}
 use Rattle.expr_read.specs.declared.fault.ExprCause.TheVariants.{TooLong, BadChar, NumberRange, TooDeep, UnknownName, Unexpected, Memory}
 

@@ -1,5 +1,5 @@
 -- What fits where. `limit` is the greatest nesting, and depth the nesting at a place.
-use Rattle.std.specs.Prelude.{ℕ, zero, suc, ◌≡◌, ◌<◌, ◌^◌, List, [], ◌∷◌, Bool, true, false, not, ◌==◌, Option, Some, None}
+use Rattle.std.specs.Prelude.{ℕ, zero, suc, ◌≡◌, ◌<◌, ◌^◌, ◌+◌, List, [], ◌∷◌, Bool, true, false, not, ◌==◌, Option, Some, None}
 use Rattle.ent_types.specs.declared.entity.TypeId.{TypeId}
 use Rattle.expr_tokens.specs.declared.sign.Sign.{Sign}
 use Rattle.expr_tokens.specs.declared.sign.Sign.TheVariants as signs
@@ -16,7 +16,7 @@ use Rattle.expr_read.specs.declared.words.Change.{Change}
 use Rattle.expr_read.specs.declared.words.Change.TheVariants as changes
 use Rattle.expr_read.specs.declared.words.Turn.{Turn}
 use Rattle.expr_read.specs.declared.words.Turn.TheVariants as turns
-use Rattle.expr_read.specs.Grammar.{plain, own, Ref, entity, called, Sort, expr, tail, Syntax, number, group, signed, named, alone, field, two, pick, get, alive, has, same, on, lone, chain, stop, more, Value, int, ref, Part, AssignText, SwitchText, Command, create, destroy, change, turn, instantiate}
+use Rattle.expr_read.specs.Grammar.{AfterName, plain, own, Ref, entity, called, Sort, operand, suffix, expr, tail, Syntax, number, group, signed, named, alone, field, two, pick, get, alive, has, same, on, lone, chain, stop, more, Value, int, ref, Part, AssignText, SwitchText, Command, create, destroy, change, turn, instantiate}
 use Rattle.expr_read.specs.Scopes.{Scope}
 
 -- the signs before an operand

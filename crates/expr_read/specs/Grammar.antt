@@ -1,10 +1,10 @@
 -- The grammar, as concrete trees with their tokens. A tree is spelled in front of the tokens that follow it.
-use Rattle.std.specs.Prelude.{ℕ, List, [], ◌∷◌, codes}
+use Rattle.std.specs.Prelude.{ℕ, ◌≡◌, List, [], ◌∷◌, Bool, Option, Some, None, codes}
 use Rattle.ent_types.specs.declared.entity.TypeId.{TypeId}
 use Rattle.expr_tokens.specs.Tokens.{Token}
 use Rattle.expr_tokens.specs.Tokens.{word, sign, number as numeral}
 use Rattle.expr_tokens.specs.declared.sign.Sign.{Sign}
-use Rattle.expr_tokens.specs.declared.sign.Sign.TheVariants.{Open, Close, Comma, Dot, Colon, Assign as Becomes}
+use Rattle.expr_tokens.specs.declared.sign.Sign.TheVariants.{Open, Close, Comma, Dot, Colon, Plus, Minus, Times, Divide, Rest, Not, Assign as Becomes, Equal, NotEqual, Less, LessEqual, Greater, GreaterEqual, And, Or}
 use Rattle.expr_read.specs.declared.tree.Variable.{Variable}
 use Rattle.expr_read.specs.declared.tree.RefExpr.{RefExpr}
 use Rattle.expr_read.specs.declared.tree.UnaryOp.{UnaryOp}

@@ -1,5 +1,6 @@
 -- The five sorts of texts.
-use Rattle.std.specs.Prelude.{[], false}
+use Rattle.std.specs.Prelude.{ℕ, List, [], Bool, false}
+use Rattle.expr_tokens.specs.Tokens.{Token}
 use Rattle.expr_read.specs.declared.tree.Expr.{Expr}
 use Rattle.expr_read.specs.declared.tree.RefExpr.{RefExpr}
 use Rattle.expr_read.specs.declared.tree.Assign.{Assign}

@@ -1,6 +1,7 @@
 -- What the trees mean. Parentheses leave nothing, and a tail means a function of what stands on its left.
-use Rattle.std.specs.Prelude.{map, pos}
+use Rattle.std.specs.Prelude.{ℕ, ◌≡◌, List, [], ◌∷◌, map, pos}
 use Rattle.ent_types.specs.declared.entity.TypeId.{TypeId}
+use Rattle.ent_types.specs.declared.entity.Entity.{Entity}
 use Rattle.expr_read.specs.declared.tree.Expr.{Expr}
 use Rattle.expr_read.specs.declared.tree.Expr.TheVariants as exprs
 use Rattle.expr_read.specs.declared.tree.RefExpr.{RefExpr}
@@ -16,7 +17,7 @@ use Rattle.expr_read.specs.declared.words.Change.{Change}
 use Rattle.expr_read.specs.declared.words.Change.TheVariants as changes
 use Rattle.expr_read.specs.declared.words.Turn.{Turn}
 use Rattle.expr_read.specs.declared.words.Turn.TheVariants as turns
-use Rattle.expr_read.specs.Grammar.{plain, own, Ref, entity, called, Sort, operand, suffix, expr, tail, Syntax, number, group, signed, named, alone, field, two, pick, get, alive, has, same, on, lone, chain, stop, more, Value, int, ref, Part, AssignText, SwitchText, Command, create, destroy, change, turn, instantiate}
+use Rattle.expr_read.specs.Grammar.{AfterName, plain, own, Ref, entity, called, Sort, operand, suffix, expr, tail, Syntax, number, group, signed, named, alone, field, two, pick, get, alive, has, same, on, lone, chain, stop, more, Value, int, ref, Part, AssignText, SwitchText, Command, create, destroy, change, turn, instantiate}
 
 abbrev pub meaning_ref : Ref → RefExpr
 meaning_ref (entity index version) = refs.Entity (record { index = index; version = version })

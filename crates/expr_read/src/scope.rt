@@ -1,16 +1,19 @@
 //! What the names of a text stand for, by the place of the text.
-ghost use Rattle.std.specs.Prelude.{◌≡◌, ◌<◌, ◌≤◌, ◌&&◌, length, find, option_map, IfSome, if◌then◌else◌, Some, None};
-ghost use Rattle.std.specs.List.{list_any};
+ghost use Rattle.std.specs.Prelude.{◌≡◌, ◌<◌, ◌≤◌, length, IfSome, if◌then◌else◌, Some, None};
 ghost use Rattle.std.specs.Option.{option_copied};
-ghost use Rattle.ent_types.specs.Types.{same_name, is_ref_kind, kind_of_field};
 ghost use Rattle.ent_types.specs.Registries.{type_at};
-ghost use Rattle.expr_read.specs.ScopeOf.{is_system, variable_of, system_variable, plain_call, system_call, made_reference, own_reference, is_known, is_own, may_name, suits, suited_field, is_open, is_shared, is_scene_tag, may_stand, scope_of};
+ghost use Rattle.expr_read.specs.ScopeOf.{is_system, is_known, is_own, may_name, is_open, may_stand, scope_of};
 ghost use Rattle.expr_read.specs.Scopes.{IsLawful};
 
+mod by_kind;
+mod by_word;
+
 use crate::names::Names;
-use crate::places::{field_of, type_of};
-use crate::{BinaryOp, Call, FieldUse, RefExpr, TypeUse, Variable};
-use ent_types::{FieldInfo, FieldKind, Kind, Name, Registry, TypeId, TypeInfo, TypeSet};
+use crate::places::type_of;
+use crate::{Call, FieldUse, RefExpr, TypeUse, Variable};
+use by_kind::{has_suited, is_ref_kind, is_shared, kind_of_field, suited_field};
+use by_word::{is, own_reference, plain_call, system_call, system_variable};
+use ent_types::{Kind, Name, Registry, TypeId, TypeInfo, TypeSet};
 
 /// The number of the built-in type `SceneTag`.
 const SCENE_TAG: u16 = 2;
@@ -49,155 +52,6 @@ pub struct Scope<'a> {
     pub bound: &'a TypeSet,
     /// The names that earlier commands make.
     pub made: &'a [Made],
-}
-
-/// Says whether a name is this word.
-fn is(name: &[u8], word: &[u8]) -> bool
-    ensures { result ≡ same_name name.now word.now }
-{
-    name == word
-}
-
-/// The variable of this name in a system.
-fn system_variable(name: &[u8]) -> Option<Variable>
-    ensures { result ≡ system_variable name.now }
-{
-    if is(name, b"frame") {
-        Some(Variable::Frame)
-    } else if is(name, b"chunk") {
-        Some(Variable::Chunk)
-    } else if is(name, b"row") {
-        Some(Variable::Row)
-    } else if is(name, b"index") {
-        Some(Variable::Index)
-    } else if is(name, b"version") {
-        Some(Variable::Version)
-    } else {
-        None
-    }
-}
-
-/// The call of this name that asks nothing of the world.
-fn plain_call(name: &[u8]) -> Option<Call>
-    ensures { result ≡ plain_call name.now }
-{
-    if is(name, b"min") {
-        Some(Call::Two(BinaryOp::Min))
-    } else if is(name, b"max") {
-        Some(Call::Two(BinaryOp::Max))
-    } else if is(name, b"pick") {
-        Some(Call::Pick)
-    } else {
-        None
-    }
-}
-
-/// The call of this name in a system.
-fn system_call(name: &[u8]) -> Option<Call>
-    ensures { result ≡ system_call name.now }
-{
-    if is(name, b"get") {
-        Some(Call::Get)
-    } else if is(name, b"alive") {
-        Some(Call::Alive)
-    } else if is(name, b"has") {
-        Some(Call::Has)
-    } else if is(name, b"same") {
-        Some(Call::Same)
-    } else if is(name, b"on") {
-        Some(Call::On)
-    } else {
-        plain_call(name)
-    }
-}
-
-/// The name as an earlier command of the same buffer makes it.
-fn made_named<'a>(made: &'a [Made], name: &[u8]) -> Option<&'a Made>
-    ensures { option_copied result ≡ find (λ m. m.same_buffer && same_name name.now m.name) made.now }
-{
-    made.iter()
-        .find(|m| m.same_buffer && is(name, m.name.as_bytes()))
-}
-
-/// What an earlier command of the same buffer makes under this name.
-fn made_reference(made: &[Made], name: &[u8]) -> Option<RefExpr>
-    ensures { result ≡ made_reference made.now name.now }
-{
-    let found = made_named(made, name)?;
-    Some(RefExpr::Made(found.number))
-}
-
-/// The reference that a name alone is in a system.
-fn own_reference(made: &[Made], fits: bool, name: &[u8]) -> Option<RefExpr>
-    ensures { result ≡ own_reference made.now fits name.now }
-{
-    if is(name, b"self") {
-        Some(RefExpr::Me)
-    } else if fits {
-        made_reference(made, name)
-    } else {
-        None
-    }
-}
-
-/// Says whether a field holds a reference.
-fn is_ref_kind(kind: FieldKind) -> bool
-    ensures { result ≡ is_ref_kind kind }
-{
-    match kind {
-        FieldKind::I32 | FieldKind::I64 => false,
-        FieldKind::Ref => true,
-    }
-}
-
-/// Says whether a field that holds this may be named so.
-fn suits(role: FieldUse, kind: FieldKind) -> bool
-    ensures { result ≡ suits role kind }
-{
-    match role {
-        FieldUse::Number | FieldUse::Looked => !is_ref_kind(kind),
-        FieldUse::Entity => is_ref_kind(kind),
-        FieldUse::Assigned => true,
-    }
-}
-
-/// Says whether some field may be named so.
-fn has_suited(role: FieldUse, fields: &[FieldInfo]) -> bool
-    ensures { result ≡ list_any (λ f. suits role f.kind) fields.now }
-{
-    fields.iter().any(|f| suits(role, f.kind))
-}
-
-/// The kind of a field, where it is there.
-fn kind_of_field(info: &TypeInfo, at: usize) -> FieldKind
-    ensures { result ≡ kind_of_field info.now at }
-{
-    match info.fields.get(at) {
-        None => FieldKind::I32,
-        Some(field) => field.kind,
-    }
-}
-
-/// The place of the field of this name, where it may be named so.
-fn suited_field(role: FieldUse, info: &TypeInfo, name: &[u8]) -> Option<u8>
-    requires { length info.now.fields ≤ 64 }
-    ensures { result ≡ suited_field role info.now name.now }
-{
-    let at = field_of(name, info)?;
-    if !suits(role, kind_of_field(info, at)) {
-        return None;
-    }
-    Some(at as u8)
-}
-
-/// Says whether a type of this kind has one value for all rows of a block.
-fn is_shared(kind: Kind) -> bool
-    ensures { result ≡ is_shared kind }
-{
-    match kind {
-        Kind::Plain | Kind::Tag | Kind::Cleanup => false,
-        Kind::Shared => true,
-    }
 }
 
 impl TextPlace {
@@ -335,3 +189,6 @@ impl Names for Scope<'_> {
         self.is_known(ty) && is_ref_kind(kind_of_field(self.registry.info(ty), usize::from(field)))
     }
 }
+
+#[cfg(test)]
+mod tests;

@@ -5,7 +5,7 @@ use Rattle.ent_types.specs.declared.kinds.FieldKind.TheVariants.{I32}
 use Rattle.ent_types.specs.declared.type_info.FieldInfo.{FieldInfo}
 use Rattle.ent_types.specs.declared.type_info.TypeInfo.{TypeInfo}
 use Rattle.ent_types.specs.Types.{kind_of_field}
-use Rattle.expr_read.proofs.scope.kind_of_field.Goals as goal
+use Rattle.expr_read.proofs.scope.by_kind.kind_of_field.Goals as goal
 
 none : FieldInfo
 none = record { name = []; kind = I32 }
