@@ -18,7 +18,9 @@ use ent_types::{Kind, Name, Registry, TypeId, TypeInfo, TypeSet};
 /// The number of the built-in type `SceneTag`.
 const SCENE_TAG: u16 = 2;
 
-/// Where a text stands.
+/// Where a text stands, which decides what its names may be.
+///
+/// This project's own.
 #[derive(Clone, Copy, Debug, PartialEq, Eq)]
 pub enum TextPlace {
     /// A value of a spawn, which knows the number of the row.
@@ -30,18 +32,23 @@ pub enum TextPlace {
 }
 
 /// A name that an earlier command of the system makes.
+///
+/// This project's own.
 #[derive(Clone, Copy, Debug)]
 pub struct Made {
     /// The name, which is neither `null` nor `self`.
     pub name: Name,
     /// The number of the command that makes it.
     pub number: u32,
-    /// Whether that command is played back with the text's own.
+    /// Whether that command and the text's own go into one buffer.
     pub same_buffer: bool,
 }
 
 /// What the names of a text stand for: the types that there are, where the text stands, the types that each visited
 /// row has, and the names that earlier commands make. The names are distinct, and the bound types are known.
+///
+/// A type that isn't known may be named nowhere. Each answer takes at most one walk over the types, the fields of one
+/// type or the names made, and no memory. This project's own.
 #[derive(Clone, Copy)]
 pub struct Scope<'a> {
     /// The types.
@@ -131,6 +138,7 @@ impl Scope<'_> {
     pub(crate) fn law(&self)
         ensures { IsLawful (scope_of self.now.registry.now self.now.place self.now.bound.now self.now.made.now) }
     {
+        // The types of a registry are lawful.
         let _ = self.registry.types();
     }
 }
