@@ -1,7 +1,9 @@
 mod ChainSteps
+mod CommandScopeLaws
 mod Complete
 mod Completions
 mod Keeps
+mod NewNames
 mod Prefixes
 mod ReadExprs
 mod ReadRefs

@@ -89,7 +89,8 @@ module _ (types : List TypeInfo) (lawful : IsLawfulRegistry types) (place : Text
   unfolding built_in_types
   enough = omega (arith, length-take 3 types, ap length lawful.built_in)
 
-  found : (n : ℕ) → n < length types → type_id_named types (type_at types n).name ≡ Some (record { 0 = n })
+  -- a type is found by its own name
+  pub found : (n : ℕ) → n < length types → type_id_named types (type_at types n).name ≡ Some (record { 0 = n })
   unfolding type_named
   found n within =
       ap (option_map (λ (k : ℕ). let id : TypeId = record { 0 = k } in id)) (place_of (λ (t : TypeInfo). t.name) (plain_tag []) types n lawful.distinct within)

@@ -1,5 +1,6 @@
 pub mod ChainFronts
 pub mod Chains
+pub mod CommandScopes
 pub mod Faults
 pub mod Fitting
 pub mod Grammar

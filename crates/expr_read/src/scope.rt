@@ -3,6 +3,7 @@ ghost use Rattle.std.specs.Prelude.{◌≡◌, ◌<◌, ◌≤◌, length, IfSom
 ghost use Rattle.std.specs.Option.{option_copied};
 ghost use Rattle.ent_types.specs.Registries.{type_at};
 ghost use Rattle.expr_read.specs.ScopeOf.{is_system, is_known, is_own, may_name, is_open, may_stand, scope_of};
+ghost use Rattle.expr_read.specs.CommandScopes.{ServesCommands};
 ghost use Rattle.expr_read.specs.Scopes.{IsLawful};
 
 mod by_kind;
@@ -140,6 +141,15 @@ impl Scope<'_> {
     {
         // The types of a registry are lawful.
         let _ = self.registry.types();
+    }
+
+    /// The theory of commands holds in this scope, too.
+    pub(crate) fn command_law(&self)
+        ensures { ServesCommands (scope_of self.now.registry.now self.now.place self.now.bound.now self.now.made.now) }
+    {
+        let _ = self.registry.types();
+        // There are fewer than 2^64 names, so that some name is new.
+        let _ = self.made.iter();
     }
 }
 

@@ -119,5 +119,6 @@ fn ref_fields(rt: HostRuntime) -> Result<(), Fail> {
         assert_eq!(rt; scope.is_ref(ty, field), want, "{ty:?} {field}");
     }
     scope.law();
+    scope.command_law();
     Ok(())
 }
