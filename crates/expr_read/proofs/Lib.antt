@@ -1,14 +1,17 @@
 pub mod Answered
 mod ChainSteps
+mod CommandScopeLaws
 mod Complete
 mod Completions
 pub mod FirstFaults
 mod Keeps
+mod NewNames
 mod Prefixes
 pub mod Raised
 mod ReadExprs
 mod ReadRefs
 mod Runs
+mod ScopeLaws
 pub mod Settling
 mod SignFacts
 pub mod Starts

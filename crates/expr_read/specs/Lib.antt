@@ -1,11 +1,13 @@
 pub mod ChainFronts
 pub mod Chains
+pub mod CommandScopes
 pub mod Faults
 pub mod Fitting
 pub mod Grammar
 pub mod Languages
 pub mod Machine
 pub mod Meaning
+pub mod ScopeOf
 pub mod Scopes
 pub mod Reader
 pub mod Readings

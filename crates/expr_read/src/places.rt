@@ -15,7 +15,7 @@ pub(crate) struct FieldPlace {
 
 /// The type with this name. The word may be longer than any name.
 #[tactic(auto, unfolding(ent_types::specs::Registries::type_named))]
-fn type_of(word: &[u8], registry: &Registry) -> Option<usize>
+pub(crate) fn type_of(word: &[u8], registry: &Registry) -> Option<usize>
     ensures place { result ≡ type_named registry.now word.now }
     ensures within { IfSome result (λ at. at < length registry.now) }
     ensures most { length registry.now ≤ 256 }
@@ -28,7 +28,7 @@ fn type_of(word: &[u8], registry: &Registry) -> Option<usize>
 
 /// The field with this name. The word may be longer than any name.
 #[tactic(auto, unfolding(ent_types::specs::Types::field_named))]
-fn field_of(word: &[u8], info: &TypeInfo) -> Option<usize>
+pub(crate) fn field_of(word: &[u8], info: &TypeInfo) -> Option<usize>
     ensures place { result ≡ field_named info.now word.now }
     ensures within { IfSome result (λ at. at < length info.now.fields) }
 {

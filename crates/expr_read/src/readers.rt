@@ -1,0 +1,29 @@
+//! The readers of texts where they stand.
+ghost use Rattle.expr_read.specs.Languages.{exprs, refs};
+ghost use Rattle.expr_read.specs.Readings.{ReadsText};
+ghost use Rattle.expr_read.specs.ScopeOf.{scope_of};
+
+use crate::texts::{read_expr_by, read_ref_by};
+use crate::{Expr, ExprFault, RefExpr, Scope};
+use std::alloc::Global;
+
+/// The expression that a text is where it stands, or its first fault.
+///
+/// The fault is `TooLong` at 1024 exactly where the text has more than 1,024 bytes. Else it is at the first token after
+/// which no text of the grammar can follow, or at the text's end, and its cause is the first that fits of `BadChar`,
+/// `NumberRange`, `TooDeep`, `UnknownName` and `Unexpected`. `Memory` is for want of memory alone. The language is this
+/// project's own.
+pub fn read_expr(alloc: Global, text: &str, scope: &Scope) -> Result<Expr, ExprFault>
+    ensures { ReadsText (exprs (scope_of scope.now.registry.now scope.now.place scope.now.bound.now scope.now.made.now)) text.now result }
+{
+    scope.law();
+    read_expr_by(alloc, text, scope)
+}
+
+/// The reference that a text is where it stands, or its first fault, as `read_expr` tells it. No made name fits.
+pub fn read_ref(alloc: Global, text: &str, scope: &Scope) -> Result<RefExpr, ExprFault>
+    ensures { ReadsText (refs (scope_of scope.now.registry.now scope.now.place scope.now.bound.now scope.now.made.now)) text.now result }
+{
+    scope.law();
+    read_ref_by(alloc, text, scope)
+}
