@@ -1,11 +1,11 @@
 -- Which id is found by a key, before and after one id is held for another key.
-use Rattle.std.proofs.Common.{◌≡◌, ◌≢◌, ℕ, ◌<◌, Bool, true, false, cond, inl, inr, List, Option, Some, None, nat_eq, refl, sym, ap, ◌∙◌, subst, arith}
-use Rattle.std.proofs.lemmas.Bool.{cases_eq, cases_Bool, cond-true, cond-false, false_from_ne_true, eq-eqb, eqb-true}
+use Rattle.std.proofs.Common.{◌≡◌, ◌≢◌, ℕ, ◌<◌, true, false, cond, inl, inr, List, Option, Some, None, refl, sym, ap, ◌∙◌, subst, arith}
+use Rattle.std.proofs.lemmas.Bool.{cases_eq, cases_Bool, cond-true, cond-false, false_from_ne_true}
 use Rattle.shared_values.specs.declared.key.Key.{Key}
 use Rattle.shared_values.specs.declared.table.Slot.{Slot}
 use Rattle.shared_values.specs.Keys.{same_key}
 use Rattle.shared_values.specs.KeyLaws.{key_from, key_decides}
-use Rattle.shared_values.specs.Holds.{slot_at, holds_of, IsHeld, AreOneEach, ChangesTo}
+use Rattle.shared_values.specs.Holds.{slot_at, holds_of, AreOneEach, ChangesTo}
 use Rattle.shared_values.specs.Tables.{IsFor, AreFound}
 
 some_same : {A : Type 0} (found : Option A) (x y : A) → found ≡ Some x → found ≡ Some y → x ≡ y

@@ -1,10 +1,10 @@
 -- That no two ids that are held stand for the same values stays so when an id is held once more.
-use Rattle.std.proofs.Common.{◌≡◌, ◌≢◌, ℕ, ◌<◌, inl, inr, List, Result, Ok, Err, IfOk, OnErr, refl, sym, ap, ◌∙◌, subst, arith}
+use Rattle.std.proofs.Common.{◌≡◌, ◌≢◌, ℕ, ◌<◌, inl, inr, List, Result, Ok, Err, IfOk, OnErr, sym, ap, ◌∙◌, subst}
 use Rattle.std.proofs.lemmas.Bool.{cases_eq}
 use Rattle.ent_types.specs.declared.value.Value.{Value}
 use Rattle.ent_types.specs.declared.memory.Memory.{Memory}
 use Rattle.shared_values.specs.declared.table.Slot.{Slot}
-use Rattle.shared_values.specs.Holds.{slot_at, holds_of, type_of, values_of, IsHeld, StandsFor, AreOneEach, IsIdFor, ChangesTo, held_once_more}
+use Rattle.shared_values.specs.Holds.{type_of, values_of, IsHeld, AreOneEach, IsIdFor, ChangesTo, held_once_more}
 
 module _ (old new : List Slot) (type_id : ℕ) (values : List Value) (id : ℕ) (each : AreOneEach old) (answer : IsIdFor old type_id values id)
     (changes : ChangesTo old new id (held_once_more old id type_id values)) where

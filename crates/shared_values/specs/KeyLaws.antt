@@ -1,16 +1,13 @@
 -- Keys that are found equal are the same, so `==` is an equivalence and equal keys hash alike.
-use Rattle.std.specs.Prelude.{◌≡◌, ℕ, List, Bool, true, false, ◌&&◌, nat_eq}
+use Rattle.std.specs.Prelude.{◌≡◌, ℕ, List, ◌&&◌, nat_eq}
 use Rattle.std.specs.Bool.{Decides}
 use Rattle.std.specs.Cmp.{IsEquivalence, decided, unsigned_Decides, signed_Decides}
-use Rattle.std.specs.Ordering.{int_eq}
-use Rattle.std.specs.Cmp.Lexicographic.{pointwise}
 use Rattle.std.specs.Hash.{Alike, same_Alike}
-use Rattle.std.proofs.Common.{ap, ap₂, refl, sym}
+use Rattle.std.proofs.Common.{ap, ap₂, refl}
 use Rattle.std.proofs.lemmas.Bool.{false≢true}
 use Rattle.std.proofs.lemmas.Bool.Decides.{Decides-and}
 use Rattle.std.proofs.lemmas.Slice.Eq.{slice_eq-Decides}
 use Rattle.ent_types.specs.declared.entity.Entity.{Entity}
-use Rattle.ent_types.specs.declared.entity.TypeId.{TypeId}
 use Rattle.ent_types.specs.declared.value.Value.{Value}
 use Rattle.ent_types.specs.declared.value.Value.TheVariants.{Int, Ref}
 use Rattle.ent_types.specs.contracts.value.ValuePartialEq.TheImpl as value_eq
@@ -32,10 +29,11 @@ value_decides : (v w : Value) → Decides (value_eq.ghosts.eq v w) (v ≡ w)
 value_decides (Int x) (Int y) = (λ h. ap Int ((signed_Decides x y).0 h), λ e. (signed_Decides x y).1 cc)
 value_decides (Int x) (Ref e) = (λ h. absurd (false≢true h), λ h. cc)
 value_decides (Ref d) (Int y) = (λ h. absurd (false≢true h), λ h. cc)
-value_decides (Ref d) (Ref e) =
-    (λ h. ap Ref (same_entity d e ((entity_decides d e).0 h)),
-    λ same. let entities : d ≡ e = ap (entity_of d) same in
-    (entity_decides d e).1 (ap (λ (x : Entity). x.index) entities, ap (λ (x : Entity). x.version) entities))
+value_decides (Ref d) (Ref e) = (
+  λ h. ap Ref (same_entity d e ((entity_decides d e).0 h)),
+  λ same. let entities : d ≡ e = ap (entity_of d) same in
+      (entity_decides d e).1 (ap (λ (x : Entity). x.index) entities, ap (λ (x : Entity). x.version) entities),
+)
 
 pub key_from : (a b : Key) → (a.ty.0 ≡ b.ty.0) × (a.values ≡ b.values) → a ≡ b
 key_from a b same = ap₂ (λ (n : ℕ) (vs : List Value). let k : Key = record { ty = record { 0 = n }; values = vs } in k) same.0 same.1

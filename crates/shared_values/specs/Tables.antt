@@ -1,5 +1,5 @@
 -- The table as it is kept: a slot for each id that was given, a stack of the free ids, and a map from keys to ids.
-use Rattle.std.specs.Prelude.{ℕ, ◌≡◌, ◌<◌, ◌≤◌, ◌==◌, ◌&&◌, ◌↔◌, Bool, List, length, Option, Some, nat_eq, nat_lt}
+use Rattle.std.specs.Prelude.{ℕ, ◌≡◌, ◌≤◌, ◌==◌, ◌&&◌, ◌↔◌, Bool, List, length, Option, Some, nat_eq, nat_lt}
 use Rattle.std.specs.List.{list_any, IsDistinct}
 use Rattle.std.specs.HashMap.{get}
 use Rattle.std.specs.Vec.{vec_capacity}

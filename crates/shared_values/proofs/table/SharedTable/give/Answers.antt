@@ -1,14 +1,13 @@
-use Rattle.std.proofs.Common.{◌≡◌, ℕ, ◌-◌, ◌<◌, ◌≤◌, List, [], ◌∷◌, ◌++◌, length, Some, set, refl, sym, ap, ◌∙◌, subst, arith}
-use Rattle.std.specs.List.{slice_get}
+use Rattle.std.proofs.Common.{◌≡◌, [], ◌∷◌, ◌++◌, length, sym, ap, ◌∙◌, subst, arith}
 use Rattle.std.specs.HashMap.{get}
 use Rattle.std.proofs.lemmas.List.{length-set, length-append}
 use Rattle.std.proofs.lemmas.Grind.{common_steps}
 use Rattle.shared_values.specs.declared.table.Slot.{Slot}
 use Rattle.shared_values.specs.Keys.{same_key}
-use Rattle.shared_values.specs.Holds.{slot_at, holds_of, IsFreeId, ChangesTo}
-use Rattle.shared_values.specs.Tables.{is_free, AreFree, IsFor}
+use Rattle.shared_values.specs.Holds.{IsFreeId, ChangesTo}
+use Rattle.shared_values.specs.Tables.{IsFor}
 use Rattle.shared_values.proofs.Changes.{changes-set, changes-push, fresh_free}
-use Rattle.shared_values.proofs.FreeIds.{free-fresh, all_held, top_from}
+use Rattle.shared_values.proofs.FreeIds.{free-fresh, top_from}
 use Rattle.shared_values.proofs.FoundIds.{found-given}
 use Rattle.shared_values.proofs.table.SharedTable.give.Goals as goal
 

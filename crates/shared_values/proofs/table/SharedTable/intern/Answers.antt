@@ -1,4 +1,4 @@
-use Rattle.std.proofs.Common.{IfOk, OnErr, arith, subst, ◌≡◌}
+use Rattle.std.proofs.Common.{IfOk, arith, subst}
 use Rattle.std.specs.HashMap.{get}
 use Rattle.std.proofs.lemmas.Grind.{common_steps}
 use Rattle.shared_values.specs.Keys.{same_key}

@@ -1,12 +1,11 @@
-use Rattle.std.proofs.Common.{◌≡◌, ℕ, ◌<◌, ◌≤◌, List, [], ◌∷◌, ◌++◌, length, get_or, set, nat_eq, refl, sym, ap, ◌∙◌, subst, arith}
+use Rattle.std.proofs.Common.{◌≡◌, set, sym, ap, ◌∙◌, arith}
 use Rattle.std.specs.Cmp.{nat_eq_equiv}
 use Rattle.std.specs.HashMap.{get}
 use Rattle.std.proofs.lemmas.List.{length-set, get_or_default}
 use Rattle.std.proofs.lemmas.Map.Keys.{IsDistinct-push}
 use Rattle.shared_values.specs.declared.table.Slot.{Slot}
 use Rattle.shared_values.specs.Keys.{same_key}
-use Rattle.shared_values.specs.Holds.{vacant, slot_at, IsHeld, ChangesTo}
-use Rattle.shared_values.specs.Tables.{IsFor}
+use Rattle.shared_values.specs.Holds.{vacant, slot_at, IsHeld}
 use Rattle.shared_values.proofs.Changes.{changes-set, held_below}
 use Rattle.shared_values.proofs.FreeIds.{is_free-held, free-given, room_for}
 use Rattle.shared_values.proofs.FoundIds.{found-taken}

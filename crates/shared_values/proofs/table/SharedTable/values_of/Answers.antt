@@ -3,8 +3,6 @@ use Rattle.std.specs.HashMap.{get}
 use Rattle.shared_values.specs.Keys.{same_key}
 use Rattle.shared_values.specs.Holds.{AreOneEach}
 use Rattle.shared_values.proofs.FoundIds.{one_each}
-use Rattle.shared_values.proofs.Changes.{held_below}
-use Rattle.shared_values.proofs.FreeIds.{once_front}
 use Rattle.shared_values.proofs.table.SharedTable.values_of.Goals as goal
 
 pub returns-clause-one_each : goal.returns-clause-one_each
