@@ -6,7 +6,7 @@ use Rattle.ent_types.specs.declared.entity.Entity.{Entity}
 use Rattle.ent_types.specs.declared.value.Value.{Value}
 use Rattle.ent_types.specs.declared.value.Value.TheVariants.{Int, Ref}
 use Rattle.world_model.specs.Row.{Row}
-use Rattle.world_model.specs.World.{World, Block, Home, Mark, SharedValues}
+use Rattle.world_model.specs.World.{Block, Home, Mark, SharedValues}
 
 -- a world that has given out an entity, with that entity
 pub record Given : Type 0 where

@@ -1,3 +1,4 @@
 pub mod Row
 pub mod World
 pub mod Enter
+pub mod Leave

@@ -1,5 +1,5 @@
 -- The world: rows in blocks, and what is given to new entities.
-use Rattle.std.specs.Prelude.{ℕ, Bool, List, [], ◌∷◌, length, sum_by, map}
+use Rattle.std.specs.Prelude.{ℕ, List, [], length, sum_by, map}
 use Rattle.chunk_layout.specs.Capacity.{capacity_of}
 use Rattle.ent_types.specs.declared.entity.Entity.{Entity}
 use Rattle.ent_types.specs.declared.value.Value.{Value}

@@ -1,0 +1,4 @@
+pub mod Changes
+pub mod FreeIds
+pub mod FoundIds
+pub mod OneEach
