@@ -1,5 +1,5 @@
 -- What a reader answers, from what the machine does.
-use Rattle.std.proofs.Common.{ℕ, ◌≡◌, List, [], ◌∷◌, map, length, false, sym, subst}
+use Rattle.std.proofs.Common.{ℕ, ◌≡◌, ◌≤◌, List, [], ◌∷◌, map, length, false, Some, sym, ap, ◌∙◌, subst}
 use Rattle.expr_tokens.specs.Tokens.{Token, Placed}
 use Rattle.expr_read.specs.declared.fault.ExprFault.{ExprFault}
 use Rattle.expr_read.specs.declared.fault.ExprCause.{ExprCause}
@@ -8,12 +8,18 @@ use Rattle.expr_read.specs.declared.symbol.Symbol.{Symbol}
 use Rattle.expr_read.specs.declared.symbol.Symbol.TheVariants as wait
 use Rattle.expr_read.specs.declared.symbol.Built.{Built}
 use Rattle.expr_read.specs.declared.symbol.Built.TheVariants as built
+use Rattle.expr_read.specs.declared.tree.ValueExpr.{ValueExpr}
+use Rattle.expr_read.specs.declared.tree.ValueExpr.TheVariants as values
+use Rattle.expr_read.specs.declared.tree.Assign.{Assign}
+use Rattle.expr_read.specs.declared.tree.Switch.{Switch}
+use Rattle.expr_read.specs.declared.words.FieldUse.TheVariants.{Assigned}
+use Rattle.expr_read.specs.declared.words.TypeUse.TheVariants.{Switched}
 use Rattle.expr_read.specs.Faults.{Texts, IsOnly, IsStuck, IsFirstFault}
-use Rattle.expr_read.specs.Languages.{exprs, refs}
+use Rattle.expr_read.specs.Languages.{exprs, refs, assigns, switches}
 use Rattle.expr_read.specs.Readings.{IsMeant, IsFaulty, IsFault, Reads, Refuses, too_long, no_memory, stopped}
-use Rattle.expr_read.specs.Reader.{Stops}
+use Rattle.expr_read.specs.Reader.{Stops, built_of, built_assign, built_switch}
 use Rattle.expr_read.specs.Scopes.{Scope, IsLawful}
-use Rattle.expr_read.proofs.Starts.{expr_fault, ref_fault, expr_only, ref_only}
+use Rattle.expr_read.proofs.Starts.{expr_fault, ref_fault, assign_fault, switch_fault, expr_only, ref_only, assign_only, switch_only}
 
 module _ {Tree Meaning : Type 0} (texts : Texts Tree Meaning) where
   -- neither a long text nor want of memory is a fault at a token
@@ -45,6 +51,26 @@ module _ {Tree Meaning : Type 0} (texts : Texts Tree Meaning) where
     tokens_are = k.tokens_are;
     first = first k.tokens (length text) f.cause f.at k.stops;
   })
+
+value_same : (v w : ValueExpr) → built_of v ≡ built_of w → v ≡ w
+value_same (values.Int a) (values.Int b) h = let same : a ≡ b = cc in ap (λ e. values.Int e) same
+value_same (values.Int a) (values.Ref b) h = absurd cc
+value_same (values.Ref a) (values.Int b) h = absurd cc
+value_same (values.Ref a) (values.Ref b) h = let same : a ≡ b = cc in ap (λ r. values.Ref r) same
+
+assign_same : (a b : Assign) → built_assign a ≡ built_assign b → a ≡ b
+assign_same a b h =
+    let tops : built_of a.value ≡ built_of b.value = cc in
+    let ty : a.ty ≡ b.ty = cc in
+    let place : a.field ≡ b.field = cc in
+    let value = value_same a.value b.value tops in
+    λ i. record { ty = ty i; field = place i; value = value i }
+
+switch_same : (a b : Switch) → built_switch a ≡ built_switch b → a ≡ b
+switch_same a b h =
+    let ty : a.ty ≡ b.ty = cc in
+    let value : a.value ≡ b.value = cc in
+    λ i. record { ty = ty i; value = value i }
 
 module _ (s : Scope) (lawful : IsLawful s) (text : List ℕ) where
   pub expr_refused : (f : ExprFault) → Refuses s (wait.Level 5 0 ∷ []) text f → IsFault (exprs s) text f.cause f.at
@@ -81,4 +107,36 @@ module _ (s : Scope) (lawful : IsLawful s) (text : List ℕ) where
         tokens = k.tokens;
         tokens_are = k.tokens_are;
         only = subst (λ x. IsOnly (refs s) 64 (map (λ p. p.token) k.tokens) x) same r.2;
+      }
+
+  pub assign_refused : (f : ExprFault) → Refuses s (wait.TypeField Assigned ∷ []) text f → IsFault (assigns s) text f.cause f.at
+  assign_refused f k = refused (assigns s) s (wait.TypeField Assigned ∷ []) text f (assign_fault s lawful 64) k
+
+  pub assign_there : (ws : List Built) → Reads s (wait.TypeField Assigned ∷ []) text ws → (e : _) × (ws ≡ built_assign e)
+  assign_there ws k = let r = assign_only s lawful 64 (map (λ p. p.token) k.tokens) ws k.runs in (r.0, r.1)
+
+  pub assign_meant : (ws : List Built) (e : _) → Reads s (wait.TypeField Assigned ∷ []) text ws → ws ≡ built_assign e → IsMeant (assigns s) text e
+  assign_meant ws e k is =
+      let r = assign_only s lawful 64 (map (λ p. p.token) k.tokens) ws k.runs in
+      record {
+        within = k.within;
+        tokens = k.tokens;
+        tokens_are = k.tokens_are;
+        only = subst (λ x. IsOnly (assigns s) 64 (map (λ p. p.token) k.tokens) x) (assign_same r.0 e (sym r.1 ∙ is)) r.2;
+      }
+
+  pub switch_refused : (f : ExprFault) → Refuses s (wait.Type Switched ∷ wait.Becomes ∷ wait.Level 5 0 ∷ []) text f → IsFault (switches s) text f.cause f.at
+  switch_refused f k = refused (switches s) s (wait.Type Switched ∷ wait.Becomes ∷ wait.Level 5 0 ∷ []) text f (switch_fault s lawful 64) k
+
+  pub switch_there : (ws : List Built) → Reads s (wait.Type Switched ∷ wait.Becomes ∷ wait.Level 5 0 ∷ []) text ws → (e : _) × (ws ≡ built_switch e)
+  switch_there ws k = let r = switch_only s lawful 64 (map (λ p. p.token) k.tokens) ws k.runs in (r.0, r.1)
+
+  pub switch_meant : (ws : List Built) (e : _) → Reads s (wait.Type Switched ∷ wait.Becomes ∷ wait.Level 5 0 ∷ []) text ws → ws ≡ built_switch e → IsMeant (switches s) text e
+  switch_meant ws e k is =
+      let r = switch_only s lawful 64 (map (λ p. p.token) k.tokens) ws k.runs in
+      record {
+        within = k.within;
+        tokens = k.tokens;
+        tokens_are = k.tokens_are;
+        only = subst (λ x. IsOnly (switches s) 64 (map (λ p. p.token) k.tokens) x) (switch_same r.0 e (sym r.1 ∙ is)) r.2;
       }

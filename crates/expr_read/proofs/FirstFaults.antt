@@ -1,5 +1,5 @@
 -- Where the machine stops there is the first fault of the text.
-use Rattle.std.proofs.Common.{ℕ, ◌≡◌, ◌<◌, ◌+◌, ◌^◌, ◌↔◌, inl, inr, ⊎_elim, List, [], ◌∷◌, ◌++◌, map, Bool, true, false, ◌||◌, cond, Option, Some, None, refl, sym, ap, ◌∙◌, subst, arith}
+use Rattle.std.proofs.Common.{ℕ, ◌≡◌, ◌<◌, ◌+◌, ◌^◌, ◌↔◌, ◌⊎◌, inl, inr, ⊎_elim, List, [], ◌∷◌, ◌++◌, map, Bool, true, false, ◌||◌, cond, Option, Some, None, refl, sym, ap, ◌∙◌, subst, arith}
 use Rattle.std.proofs.lemmas.Bool.{leb-true, leb-false}
 use Rattle.std.proofs.lemmas.List.{append-nil}
 use Rattle.std.specs.Prelude.{is_some, nat_le}
@@ -49,25 +49,43 @@ module _ (s : Scope) (limit : ℕ) where
       ap (λ ts. run s limit state.waits state.built ts) (sym (append-nil front)) ∙ run_append s limit front [] state
       ∙ ap (λ o. go_on o (λ k. run s limit k.waits k.built [])) h ∙ run_none st
 
-module _ {Tree Meaning : Type 0} (texts : Texts Tree Meaning) (s : Scope) (lawful : IsLawful s) (limit : ℕ) (start : List Symbol) (good : Good s lawful limit start)
-    (on : (l : ℕ) (front : List Token) → CanGoOn texts l front ↔ ((st : State) × (steps s l (record { waits = start; built = [] }) front ≡ Some st)))
+module _ {Tree Meaning : Type 0} (texts : Texts Tree Meaning) (s : Scope) (lawful : IsLawful s) (limit : ℕ) (start : List Symbol)
+    (good : (t : Token) (ts : List Token) (st : State) → steps s limit (record { waits = start; built = [] }) (t ∷ ts) ≡ Some st → Good s lawful limit start)
+    (on : (l : ℕ) (t : Token) (ts : List Token) → CanGoOn texts l (t ∷ ts) ↔ ((st : State) × (steps s l (record { waits = start; built = [] }) (t ∷ ts) ≡ Some st)))
     (reads : (ts : List Token) → IsText texts limit ts → (ws : List Built) × (run s limit start [] ts ≡ Some ws)) where
   abbrev Stands : ℕ → List Token → State → Type 0
   Stands l front st = steps s l (record { waits = start; built = [] }) front ≡ Some st
 
+  on_more : (l : ℕ) (front : List Token) (t : Token)
+      → CanGoOn texts l (front ++ t ∷ []) ↔ ((st : State) × (steps s l (record { waits = start; built = [] }) (front ++ t ∷ []) ≡ Some st))
+  on_more l [] t = on l t []
+  on_more l (x ∷ xs) t = on l x (xs ++ t ∷ [])
+
   goes : (l : ℕ) (front : List Token) (t : Token) (st next : State) → Stands l front st → settle s l st.waits st.built t ≡ Some next → CanGoOn texts l (front ++ t ∷ [])
-  goes l front t st next h k = (on l (front ++ t ∷ [])).1 (next, one_more s l front t (record { waits = start; built = [] }) st h ∙ k)
+  goes l front t st next h k = (on_more l front t).1 (next, one_more s l front t (record { waits = start; built = [] }) st h ∙ k)
 
   stays : (l : ℕ) (front : List Token) (t : Token) (st : State) → Stands l front st → settle s l st.waits st.built t ≡ None → CanGoOn texts l (front ++ t ∷ []) → ⊥
   stays l front t st h k can =
-      let p = (on l (front ++ t ∷ [])).0 can in
+      let p = (on_more l front t).0 can in
       let taken : steps s l (record { waits = start; built = [] }) (front ++ t ∷ []) ≡ Some p.0 = p.1 in
       let none = one_more s l front t (record { waits = start; built = [] }) st h ∙ k in
       cc
 
+  -- under a greater limit the machine stands where it stood
+  deeper_by : (front : List Token) (st : State) → Stands limit front st → Stands (limit + 1) front st
+  unfolding steps
+  deeper_by [] st h = h
+  deeper_by (t ∷ ts) st h =
+      raised s lawful limit (limit + 1) (omega arith) (t ∷ ts) (record { waits = start; built = [] }) st (good t ts st h) h
+
+  -- what was taken can go on, unless it is nothing
+  taken_on : (front : List Placed) (st : State) → Stands limit (map (λ p. p.token) front) st → (front ≡ []) ⊎ CanGoOn texts limit (map (λ p. p.token) front)
+  taken_on [] st h = inl refl
+  taken_on (p ∷ ps) st h = inr ((on limit p.token (map (λ p. p.token) ps)).1 (st, h))
+
   module _ (front : List Token) (st : State) (h : Stands limit front st) where
     deeper : Stands (limit + 1) front st
-    deeper = raised s lawful limit (limit + 1) (omega arith) front (record { waits = start; built = [] }) st good h
+    deeper = deeper_by front st h
 
     abbrev Deep : Token → Option State
     Deep t = settle s (limit + 1) st.waits st.built t
@@ -114,6 +132,6 @@ module _ {Tree Meaning : Type 0} (texts : Texts Tree Meaning) (s : Scope) (lawfu
     front = k.front;
     rest = k.rest;
     split = k.split;
-    goes_on = inr ((on limit (map (λ p. p.token) k.front)).1 (k.state, k.taken));
+    goes_on = taken_on k.front k.state k.taken;
     stuck = halted (map (λ p. p.token) k.front) k.state k.taken k.rest end cause at k.halts;
   }

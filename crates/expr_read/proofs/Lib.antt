@@ -1,4 +1,5 @@
 pub mod Answered
+pub mod Assigning
 mod ChainSteps
 mod CommandScopeLaws
 mod Complete

@@ -27,7 +27,7 @@ module _ (s : Scope) (limit : ℕ) where
     by None later = refl
     by (Some next) later = later next
 
-  stood : (o : Option State) (f : State → Option (List Built)) (ws : List Built) → go_on o f ≡ Some ws → (st : State) × (o ≡ Some st)
+  pub stood : (o : Option State) (f : State → Option (List Built)) (ws : List Built) → go_on o f ≡ Some ws → (st : State) × (o ≡ Some st)
   stood None f ws h = absurd cc
   stood (Some st) f ws h = (st, refl)
 
@@ -42,7 +42,7 @@ module _ (s : Scope) (lawful : IsLawful s) (limit : ℕ) where
     by (Some next) e k later = later next (keeps s lawful limit state.waits state.built t next g e) k
 
   -- what the machine has taken can be completed
-  completed : (front : List Token) (waits : List Symbol) (st : State) → Good s lawful limit waits → steps s limit (record { waits = waits; built = [] }) front ≡ Some st
+  pub completed : (front : List Token) (waits : List Symbol) (st : State) → Good s lawful limit waits → steps s limit (record { waits = waits; built = [] }) front ≡ Some st
       → (rest : List Token) × (ws : List Built) × (run s limit waits [] (front ++ rest) ≡ Some ws)
   completed front waits st g h =
       let c = completes s lawful limit st.waits (keeps_all front (record { waits = waits; built = [] }) st g h) in

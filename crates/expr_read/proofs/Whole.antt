@@ -14,12 +14,12 @@ use Rattle.expr_read.proofs.ReadRefs.{read_ref}
 use Rattle.expr_read.proofs.ReadExprs.{read_level}
 
 module _ (s : Scope) (lawful : IsLawful s) (limit : ℕ) where
-  nothing_left : (bs : List Built) (ts : List Token) (ws : List Built) → run s limit [] bs ts ≡ Some ws → ts ≡ []
+  pub nothing_left : (bs : List Built) (ts : List Token) (ws : List Built) → run s limit [] bs ts ≡ Some ws → ts ≡ []
   unfolding run settle finish
   nothing_left bs [] ws h = refl
   nothing_left bs (t ∷ ts) ws h = absurd cc
 
-  run_nothing : (bs : List Built) → run s limit [] bs [] ≡ Some bs
+  pub run_nothing : (bs : List Built) → run s limit [] bs [] ≡ Some bs
   unfolding run finish
   run_nothing bs = refl
 

@@ -16,6 +16,10 @@ use Rattle.ent_types.specs.declared.entity.TypeId.{TypeId}
 use Rattle.expr_read.specs.declared.tree.Expr.{Expr}
 use Rattle.expr_read.specs.declared.tree.Expr.TheVariants as exprs
 use Rattle.expr_read.specs.declared.tree.RefExpr.{RefExpr}
+use Rattle.expr_read.specs.declared.tree.ValueExpr.{ValueExpr}
+use Rattle.expr_read.specs.declared.tree.ValueExpr.TheVariants as values
+use Rattle.expr_read.specs.declared.tree.Assign.{Assign}
+use Rattle.expr_read.specs.declared.tree.Switch.{Switch}
 use Rattle.expr_read.specs.Machine.{State, tails, arguments, apply, ended, settle, finish, steps}
 use Rattle.expr_read.specs.Scopes.{Scope}
 
@@ -105,3 +109,14 @@ pub record Stops (s : Scope) (limit : ℕ) (waits : List Symbol) (tokens : List 
   pub split : tokens ≡ front ++ rest
   pub taken : steps s limit (record { waits = waits; built = [] }) (map (λ p. p.token) front) ≡ Some state
   pub halts : Halts s limit state rest end cause at
+
+-- what is built of a value, of an assign and of a switch
+abbrev pub built_of : ValueExpr → Built
+built_of (values.Int e) = built.Int e
+built_of (values.Ref r) = built.Ref r
+
+abbrev pub built_assign : Assign → List Built
+built_assign a = built_of a.value ∷ built.Field a.ty a.field ∷ []
+
+abbrev pub built_switch : Switch → List Built
+built_switch w = built.Int w.value ∷ built.Type w.ty ∷ []

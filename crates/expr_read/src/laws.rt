@@ -8,7 +8,9 @@ ghost use Rattle.expr_read.specs.declared.symbol.Built.TheVariants as built;
 ghost use Rattle.expr_read.specs.Fitting.{FitsExpr, FitsRef};
 ghost use Rattle.expr_read.specs.Grammar.{Syntax, expr, Ref, spell, spell_ref};
 ghost use Rattle.expr_read.specs.Faults.{CanGoOn, IsFirstFault};
-ghost use Rattle.expr_read.specs.Languages.{exprs, refs};
+ghost use Rattle.expr_read.specs.Languages.{exprs, refs, assigns, switches};
+ghost use Rattle.expr_read.specs.declared.words.FieldUse.TheVariants.{Assigned};
+ghost use Rattle.expr_read.specs.declared.words.TypeUse.TheVariants.{Switched};
 ghost use Rattle.expr_read.specs.Machine.{State, run, steps};
 ghost use Rattle.expr_read.specs.Meaning.{meaning, meaning_ref};
 ghost use Rattle.expr_read.specs.Reader.{Stops};
@@ -47,4 +49,8 @@ pub fn stops_at_the_first_fault()
         Stops s limit (wait.Level 5 0 ∷ []) tokens end cause at → IsFirstFault (exprs s) limit tokens end cause at }
     ensures refs { (s : Scope) → IsLawful s → (limit : ℕ) (tokens : List Placed) (end : ℕ) (cause : ExprCause) (at : ℕ) →
         Stops s limit (wait.Ref false ∷ []) tokens end cause at → IsFirstFault (refs s) limit tokens end cause at }
+    ensures assigns { (s : Scope) → IsLawful s → (limit : ℕ) (tokens : List Placed) (end : ℕ) (cause : ExprCause) (at : ℕ) →
+        Stops s limit (wait.TypeField Assigned ∷ []) tokens end cause at → IsFirstFault (assigns s) limit tokens end cause at }
+    ensures switches { (s : Scope) → IsLawful s → (limit : ℕ) (tokens : List Placed) (end : ℕ) (cause : ExprCause) (at : ℕ) →
+        Stops s limit (wait.Type Switched ∷ wait.Becomes ∷ wait.Level 5 0 ∷ []) tokens end cause at → IsFirstFault (switches s) limit tokens end cause at }
 {}

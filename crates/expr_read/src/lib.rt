@@ -1,6 +1,7 @@
 //! The little language of scenarios: its texts, and the trees that they mean.
 #![tactic(auto)]
 
+mod assigns;
 mod begin;
 mod build;
 mod cause;

@@ -128,6 +128,23 @@ fn references(rt: HostRuntime) -> Result<(), Fail> {
 }
 
 #[test]
+fn assigns(rt: HostRuntime) -> Result<(), Fail> {
+    let start = Symbol::TypeField(FieldUse::Assigned);
+    assert!(rt;
+        gives(
+            rt.alloc(),
+            start,
+            "ab.cd = f",
+            "Stack { items: [Field { ty: TypeId(7), field: 3 }, Int(Variable(Frame))] }"
+        )?
+    );
+    assert!(rt; gives(rt.alloc(), start, "ab.cd f", "UnknownName 6")?);
+    assert!(rt; gives(rt.alloc(), start, "ab.cd = null", "UnknownName 8")?);
+    assert!(rt; gives(rt.alloc(), start, "", "Unexpected 0")?);
+    Ok(())
+}
+
+#[test]
 fn first_faults(rt: HostRuntime) -> Result<(), Fail> {
     assert!(rt; gives(rt.alloc(), expr(), "", "Unexpected 0")?);
     assert!(rt; gives(rt.alloc(), expr(), "(1", "Unexpected 2")?);
