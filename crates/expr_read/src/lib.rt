@@ -30,7 +30,7 @@ pub use fault::{ExprCause, ExprFault};
 pub use laws::{
     goes_on_with_the_grammar, machine_reads_the_grammar, one_derivation, stops_at_the_first_fault,
 };
-pub use readers::{read_expr, read_ref};
+pub use readers::{read_assign, read_expr, read_ref, read_switch};
 pub use scope::{Made, Scope, TextPlace};
 pub use tree::{
     Assign, BinaryOp, CommandText, Expr, PartExpr, RefExpr, Switch, UnaryOp, ValueExpr, Variable,

@@ -1,10 +1,11 @@
 //! The readers of texts where they stand.
-ghost use Rattle.expr_read.specs.Languages.{exprs, refs};
+ghost use Rattle.expr_read.specs.Languages.{assigns, exprs, refs, switches};
 ghost use Rattle.expr_read.specs.Readings.{ReadsText};
 ghost use Rattle.expr_read.specs.ScopeOf.{scope_of};
 
+use crate::assigns::{read_assign_by, read_switch_by};
 use crate::texts::{read_expr_by, read_ref_by};
-use crate::{Expr, ExprFault, RefExpr, Scope};
+use crate::{Assign, Expr, ExprFault, RefExpr, Scope, Switch};
 use std::alloc::Global;
 
 /// The expression that a text is where it stands, or its first fault.
@@ -27,3 +28,23 @@ pub fn read_ref(alloc: Global, text: &str, scope: &Scope) -> Result<RefExpr, Exp
     scope.law();
     read_ref_by(alloc, text, scope)
 }
+
+/// The assign `TYPE.FIELD = value` that a text is where it stands, or its first fault, as `read_expr` tells it. The value
+/// is an expression or a reference by the field's kind.
+pub fn read_assign(alloc: Global, text: &str, scope: &Scope) -> Result<Assign, ExprFault>
+    ensures { ReadsText (assigns (scope_of scope.now.registry.now scope.now.place scope.now.bound.now scope.now.made.now)) text.now result }
+{
+    scope.law();
+    read_assign_by(alloc, text, scope)
+}
+
+/// The switch `TYPE = expr` that a text is where it stands, or its first fault, as `read_expr` tells it.
+pub fn read_switch(alloc: Global, text: &str, scope: &Scope) -> Result<Switch, ExprFault>
+    ensures { ReadsText (switches (scope_of scope.now.registry.now scope.now.place scope.now.bound.now scope.now.made.now)) text.now result }
+{
+    scope.law();
+    read_switch_by(alloc, text, scope)
+}
+
+#[cfg(test)]
+mod tests;
