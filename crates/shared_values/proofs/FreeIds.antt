@@ -2,7 +2,7 @@
 use Rattle.std.proofs.Common.{◌≡◌, ◌≢◌, ℕ, suc, ◌-◌, ◌<◌, ◌≤◌, ◌&&◌, ◌||◌, ◌==◌, Bool, true, false, inl, inr, List, [], ◌∷◌, ◌++◌, length, take, set, subst, Some, nat_eq, nat_lt, refl, sym, ap, ap₂, ◌∙◌, arith}
 use Rattle.std.specs.Cmp.{nat_eq_equiv}
 use Rattle.std.specs.List.{list_any, IsDistinct, slice_get}
-use Rattle.std.proofs.lemmas.Bool.{cases_eq, cases_Bool, and_parts, and_from, and_right, or_from, eqb-true, eqb-false, eq-eqb, ne_eqb, ltb-true, ltb-false, lt-ltb, le-ltb, true≢false}
+use Rattle.std.proofs.lemmas.Bool.{cases_eq, cases_Bool, and_parts, and_from, and_right, or_from, eqb-true, eqb-false, eq-eqb, ne_eqb, ltb-true, ltb-false, lt-ltb, le-ltb}
 use Rattle.std.proofs.lemmas.List.{get_or_append_left, length-append, take_all}
 use Rattle.std.proofs.lemmas.List.Folds.{list_any-append}
 use Rattle.std.proofs.lemmas.Map.Keys.{IsDistinct-tail, IsDistinct-push, apart_from_distinct, IsDistinct-from_apart}
@@ -16,13 +16,13 @@ use Rattle.shared_values.proofs.Changes.{held_below, changes-set}
 
 -- ---- the top of the stack
 
-pub once_front : (rest : List ℕ) (id : ℕ) → IsDistinct nat_eq (rest ++ id ∷ []) → IsDistinct nat_eq rest
+once_front : (rest : List ℕ) (id : ℕ) → IsDistinct nat_eq (rest ++ id ∷ []) → IsDistinct nat_eq rest
 once_front rest id once =
     IsDistinct-from_apart nat_eq rest (λ i j d before below.
     ap₂ nat_eq (sym (get_or_append_left rest (id ∷ []) d i (omega arith))) (sym (get_or_append_left rest (id ∷ []) d j below))
     ∙ apart_from_distinct nat_eq (rest ++ id ∷ []) i j d once before (omega (arith, length-append rest (id ∷ []))))
 
-pub once_top : (rest : List ℕ) (id : ℕ) → IsDistinct nat_eq (rest ++ id ∷ []) → list_any (nat_eq id) rest ≡ false
+once_top : (rest : List ℕ) (id : ℕ) → IsDistinct nat_eq (rest ++ id ∷ []) → list_any (nat_eq id) rest ≡ false
 once_top [] id once = refl
 once_top (x ∷ xs) id once =
     let apart : nat_eq x id ≡ false =
@@ -54,7 +54,7 @@ any_here rest id = any_top rest id id ∙ or-true _ (nat_eq id id) (eq-eqb id id
 pub is_free-held : (slots : List Slot) (id : ℕ) → IsHeld slots id → is_free slots id ≡ false
 is_free-held slots id held = and_right (nat_lt id (length slots)) (holds_of slots id == 0) (ne_eqb (holds_of slots id) 0 (λ none. omega arith))
 
-pub free_id : (slots : List Slot) (id : ℕ) → is_free slots id ≡ true → (id < length slots) × (holds_of slots id ≡ 0)
+free_id : (slots : List Slot) (id : ℕ) → is_free slots id ≡ true → (id < length slots) × (holds_of slots id ≡ 0)
 free_id slots id free =
     let parts = and_parts (nat_lt id (length slots)) (holds_of slots id == 0) free in
     (ltb-true id (length slots) parts.0, eqb-true (holds_of slots id) 0 parts.1)
@@ -83,7 +83,7 @@ module _ (old new : List Slot) (id : ℕ) (slot : Slot) (changes : ChangesTo old
   held_now other e held = omega (arith, holds_now other e)
 
   -- the top of the stack is held
-  pub free-taken : (rest : List ℕ) → AreFree old (rest ++ id ∷ []) → IsDistinct nat_eq (rest ++ id ∷ []) → 0 < slot.holds → AreFree new rest
+  free-taken : (rest : List ℕ) → AreFree old (rest ++ id ∷ []) → IsDistinct nat_eq (rest ++ id ∷ []) → 0 < slot.holds → AreFree new rest
   free-taken rest free once held other =
       elim (cases_eq other id) [
         | inl e ↦ ap (λ n. list_any (nat_eq n) rest) e ∙ once_top rest id once ∙ sym (is_free-held new other (held_now other e held))
@@ -111,14 +111,6 @@ module _ (old new : List Slot) (id : ℕ) (slot : Slot) (changes : ChangesTo old
         | inl e ↦ sym (is_free-held new other (held_now other e held))
         | inr apart ↦ free other ∙ sym (is_free-other other apart (omega arith))
       ]
-
--- where none is free, every id that was given is held
-pub all_held : (slots : List Slot) → AreFree slots [] → (other : ℕ) → other < length slots → IsHeld slots other
-all_held slots free other below =
-    elim (cases_eq (holds_of slots other) 0) [
-      | inl none ↦ absurd (true≢false (sym (is_free-from slots other below none) ∙ sym (free other)))
-      | inr some ↦ omega arith
-    ]
 
 -- the stack has room for an id that is held
 pub room_for : (slots : List Slot) (stack : List ℕ) (id : ℕ) → AreFree slots stack → IsDistinct nat_eq stack → IsHeld slots id → length stack < length slots

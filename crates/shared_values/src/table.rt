@@ -117,7 +117,7 @@ impl SharedTable {
         Ok(SharedId(id))
     }
 
-    /// Holds an id once less. After the last time its values are dropped. It takes no memory.
+    /// Holds an id once less. At the last release its values are dropped, and the id is free. It takes no memory.
     pub fn release(&mut self, id: SharedId)
         requires { IsHeld self.old id }
         ensures { ChangesTo self.old self.new id (held_once_less (slot_at self.old id)) }
@@ -174,7 +174,7 @@ fn enter(alloc: Global, ids: &mut HashMap<Key, u32>, key: &Key, id: u32) -> Resu
     Ok(())
 }
 
-/// The next fresh id, with room for its slot and for each id on the empty stack of the free ids.
+/// The next fresh id, with room for its slot, and on the empty stack of the free ids with room for all ids.
 fn next_id(slots: &mut Vec<Slot>, free: &mut Vec<u32>) -> Result<u32, Memory>
     requires { free.old.items ≡ [] }
     ensures id { IfOk result (λ id. id ≡ length slots.old.items) }
