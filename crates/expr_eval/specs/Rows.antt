@@ -1,5 +1,5 @@
 -- Other rows, by their entities.
-use Rattle.std.specs.Prelude.{ℕ, Bool, List, find, nat_eq, slice_get, Option, is_some, option_map, option_and_then}
+use Rattle.std.specs.Prelude.{ℕ, List, find, nat_eq, slice_get, Option, is_some, option_map, option_and_then}
 use Rattle.std.specs.Option.{option_or}
 use Rattle.ent_types.specs.declared.entity.Entity.{Entity}
 use Rattle.ent_types.specs.declared.entity.TypeId.{TypeId}

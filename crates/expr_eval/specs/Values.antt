@@ -1,5 +1,5 @@
 -- The value of an expression, wrapped to 64 bits at each operation.
-use Rattle.std.specs.Prelude.{ℕ, ◌≡◌, Bool, true, false, not, ◌&&◌, ◌||◌, if◌then◌else◌, nat_eq, ℤ, pos, neg_ℤ, ◌+ℤ◌, ◌-ℤ◌, ◌*ℤ◌, int_lt, Option, Some, None}
+use Rattle.std.specs.Prelude.{ℕ, Bool, not, ◌&&◌, ◌||◌, if◌then◌else◌, nat_eq, ℤ, pos, neg_ℤ, ◌+ℤ◌, ◌-ℤ◌, ◌*ℤ◌, int_lt, Option, Some, None}
 use Rattle.std.specs.Int.{int_wrap, int_wrapping_div}
 use Rattle.std.specs.Int.RustNames.{int_rem}
 use Rattle.std.specs.Ordering.{int_eq}

@@ -29,6 +29,7 @@ fn entity(value: Value) -> Entity
     }
 }
 
+/// The number of a value that may not be there, which counts as 0.
 fn number_or_zero(value: Option<Value>) -> i64
     ensures { result ≡ number_or_zero value }
 {
@@ -38,12 +39,14 @@ fn number_or_zero(value: Option<Value>) -> i64
     }
 }
 
-fn same(d: Entity, e: Entity) -> bool
+/// Says whether two references are the same.
+pub(crate) fn same(d: Entity, e: Entity) -> bool
     ensures { result ≡ same_entity d e }
 {
     d.index == e.index && d.version == e.version
 }
 
+/// The number that a variable stands for on a row.
 fn variable<R: RowReader>(v: Variable, reader: &R) -> i64
     ensures { result ≡ value_variable (R.own_row reader.now) v }
 {

@@ -5,6 +5,8 @@ mod evaluation;
 mod operators;
 mod readers;
 #[cfg(test)]
+mod test_rows;
+#[cfg(test)]
 mod tests;
 
 pub use evaluation::{eval, eval_ref};

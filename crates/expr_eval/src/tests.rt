@@ -1,163 +1,251 @@
-//! Expressions on a row of their own and beside one other row.
-ghost use Rattle.std.specs.Prelude.{◌≡◌, Bool, true, false, not, Option, Some, None, if◌then◌else◌, pos, refl, ◌==◌, ◌&&◌, ℕ};
-ghost use Rattle.ent_types.specs.declared.value.Value.TheVariants.{Int, Ref};
+//! Values by hand: each operator at its ends, the own row, and other rows.
+ghost use Rattle.std.specs.Prelude.{◌≡◌, ◌==◌, not, true};
 
-use crate::{Lookup, RowReader, eval, eval_ref};
-use ent_types::{Entity, TypeId, Value};
+use crate::test_rows::{DYING, FULL, ME, OtherRows, OwnRow};
+use crate::{eval, eval_ref};
+use ent_types::{Entity, TypeId};
 use expr_read::{BinaryOp, Expr, RefExpr, UnaryOp, Variable};
 use sqlite_items::Boxed;
 use std::alloc::{AllocError, Global};
 use std::test::Fail;
 
-const ME: Entity = Entity {
-    index: 4,
-    version: 2,
-};
+const LEAST: i64 = i64::MIN;
 
-/// A row whose fields hold 5 and its own entity, and on which every type is on but the last.
-#[derive(Clone, Copy, Debug)]
-struct Row;
+const GREATEST: i64 = i64::MAX;
 
-impl RowReader for Row {
-    ghost own_row = { λ _. record {
-      field = λ ty i. if i == 0 then Int (pos 5) else Ref (record { index = 4; version = 2 });
-      on = λ ty. not (ty.0 == 9);
-      me = record { index = 4; version = 2 };
-      item = 3;
-      row = 7;
-      frame = 11;
-      n = 13;
-    } };
+/// Each operator at its ends: the operator, its operands and the value.
+const TABLE: [(BinaryOp, i64, i64, i64); 50] = [
+    (BinaryOp::Or, 0, 0, 0),
+    (BinaryOp::Or, 0, -3, 1),
+    (BinaryOp::Or, 2, 0, 1),
+    (BinaryOp::And, 5, 0, 0),
+    (BinaryOp::And, 0, 5, 0),
+    (BinaryOp::And, -1, 7, 1),
+    (BinaryOp::Equal, 3, 3, 1),
+    (BinaryOp::Equal, 3, 4, 0),
+    (BinaryOp::NotEqual, 3, 3, 0),
+    (BinaryOp::NotEqual, LEAST, GREATEST, 1),
+    (BinaryOp::Less, LEAST, GREATEST, 1),
+    (BinaryOp::Less, 2, 2, 0),
+    (BinaryOp::LessEqual, 2, 2, 1),
+    (BinaryOp::LessEqual, 3, 2, 0),
+    (BinaryOp::Greater, 2, 2, 0),
+    (BinaryOp::Greater, GREATEST, LEAST, 1),
+    (BinaryOp::GreaterEqual, 2, 2, 1),
+    (BinaryOp::GreaterEqual, -3, 2, 0),
+    (BinaryOp::Plus, GREATEST, 1, LEAST),
+    (BinaryOp::Plus, LEAST, -1, GREATEST),
+    (BinaryOp::Plus, LEAST, LEAST, 0),
+    (BinaryOp::Minus, LEAST, 1, GREATEST),
+    (BinaryOp::Minus, 0, LEAST, LEAST),
+    (BinaryOp::Minus, GREATEST, -1, LEAST),
+    (BinaryOp::Times, GREATEST, 2, -2),
+    (BinaryOp::Times, LEAST, -1, LEAST),
+    (BinaryOp::Times, LEAST, 2, 0),
+    (BinaryOp::Times, GREATEST, GREATEST, 1),
+    (BinaryOp::Times, -7, 6, -42),
+    (BinaryOp::Divide, 7, 2, 3),
+    (BinaryOp::Divide, -7, 2, -3),
+    (BinaryOp::Divide, 7, -2, -3),
+    (BinaryOp::Divide, -7, -2, 3),
+    (BinaryOp::Divide, 7, 0, 0),
+    (BinaryOp::Divide, LEAST, 0, 0),
+    (BinaryOp::Divide, LEAST, -1, LEAST),
+    (BinaryOp::Divide, GREATEST, -1, -GREATEST),
+    (BinaryOp::Rest, 7, 2, 1),
+    (BinaryOp::Rest, -7, 2, -1),
+    (BinaryOp::Rest, 7, -2, 1),
+    (BinaryOp::Rest, -7, -2, -1),
+    (BinaryOp::Rest, 7, 0, 0),
+    (BinaryOp::Rest, LEAST, 0, 0),
+    (BinaryOp::Rest, LEAST, -1, 0),
+    (BinaryOp::Rest, LEAST, GREATEST, -1),
+    (BinaryOp::Min, LEAST, GREATEST, LEAST),
+    (BinaryOp::Min, 4, -4, -4),
+    (BinaryOp::Max, LEAST, GREATEST, GREATEST),
+    (BinaryOp::Max, -4, -5, -4),
+    (BinaryOp::Max, 0, 0, 0),
+];
 
-    ghost has_field = { λ _ ty i. true };
-
-    fn field(&self, _ty: TypeId, field: u8) -> Value {
-        if field == 0 {
-            Value::Int(5)
-        } else {
-            Value::Ref(ME)
-        }
-    }
-
-    fn on(&self, ty: TypeId) -> bool {
-        ty.0 != 9
-    }
-
-    fn me(&self) -> Entity {
-        ME
-    }
-
-    fn item(&self) -> u32 {
-        3
-    }
-
-    fn row(&self) -> u32 {
-        7
-    }
-
-    fn frame(&self) -> u32 {
-        11
-    }
-
-    fn n(&self) -> u32 {
-        13
-    }
+fn binary_value(alloc: Global, op: BinaryOp, a: i64, b: i64) -> Result<i64, AllocError> {
+    let left = Boxed::new(alloc, Expr::Number(a))?;
+    let right = Boxed::new(alloc, Expr::Number(b))?;
+    Ok(eval(&Expr::Binary(op, left, right), &OwnRow, &OtherRows))
 }
 
-/// One other entity is alive, and its fields hold 70; nothing else is.
-#[derive(Clone, Copy, Debug)]
-struct One;
+fn unary_value(alloc: Global, op: UnaryOp, a: i64) -> Result<i64, AllocError> {
+    let operand = Boxed::new(alloc, Expr::Number(a))?;
+    Ok(eval(&Expr::Unary(op, operand), &OwnRow, &OtherRows))
+}
 
-fn is_one(e: Entity) -> bool
-    ensures { result ≡ (e.index == 1) }
+/// Field 0 of a type other than 4 of an entity.
+fn first_field(e: Entity, ty: u16) -> i64
+    requires { not (ty == 4) ≡ true }
 {
-    e.index == 1
-}
-
-impl Lookup for One {
-    ghost other_rows = { λ _. record {
-      value = λ e ty i. if e.index == 1 then Some (Int (pos 70)) else None;
-      has = λ e ty. e.index == 1;
-      alive = λ e. e.index == 1;
-    } };
-
-    ghost can_read = { λ _ ty. true };
-
-    ghost dead_has_nothing = { λ l e ty dead. dead };
-
-    ghost lacking_has_no_value = { λ l e ty i lacks. Prim.rw lacks refl };
-
-    fn value(&self, e: Entity, _ty: TypeId, _field: u8) -> Option<Value> {
-        if is_one(e) {
-            return Some(Value::Int(70));
-        }
-        None
-    }
-
-    fn has(&self, e: Entity, _ty: TypeId) -> bool {
-        is_one(e)
-    }
-
-    fn alive(&self, e: Entity) -> bool {
-        is_one(e)
-    }
-}
-
-const THERE: RefExpr = RefExpr::Entity(Entity {
-    index: 1,
-    version: 1,
-});
-
-fn get(from: RefExpr) -> Expr {
-    Expr::Get {
-        from,
-        ty: TypeId(5),
+    let get = Expr::Get {
+        from: RefExpr::Entity(e),
+        ty: TypeId(ty),
         field: 0,
-    }
+    };
+    eval(&get, &OwnRow, &OtherRows)
 }
 
-fn both(alloc: Global, op: BinaryOp, a: Expr, b: Expr) -> Result<Expr, AllocError> {
-    Ok(Expr::Binary(op, Boxed::new(alloc, a)?, Boxed::new(alloc, b)?))
+fn has(e: Entity, ty: u16) -> i64 {
+    eval(
+        &Expr::Has(RefExpr::Entity(e), TypeId(ty)),
+        &OwnRow,
+        &OtherRows,
+    )
+}
+
+fn alive(e: Entity) -> i64 {
+    eval(&Expr::Alive(RefExpr::Entity(e)), &OwnRow, &OtherRows)
 }
 
 #[test]
-fn rows_and_lookups(rt: HostRuntime) -> Result<(), Fail> {
-    let own = Expr::Own {
-        ty: TypeId(3),
-        field: 0,
-    };
-    assert_eq!(rt; eval(&own, &Row, &One), 5);
-    assert_eq!(rt; eval(&get(THERE), &Row, &One), 70);
-    assert_eq!(rt; eval(&get(RefExpr::Null), &Row, &One), 0);
-    assert_eq!(rt; eval(&get(RefExpr::Me), &Row, &One), 0);
-    assert_eq!(rt; eval(&Expr::Alive(THERE), &Row, &One), 1);
-    assert_eq!(rt; eval(&Expr::Alive(RefExpr::Null), &Row, &One), 0);
-    assert_eq!(rt; eval(&Expr::Has(THERE, TypeId(3)), &Row, &One), 1);
-    assert_eq!(rt; eval(&Expr::Same(RefExpr::Me, RefExpr::Me), &Row, &One), 1);
-    assert_eq!(rt; eval(&Expr::Same(RefExpr::Me, THERE), &Row, &One), 0);
-    assert_eq!(rt; eval(&Expr::On(TypeId(3)), &Row, &One), 1);
-    assert_eq!(rt; eval(&Expr::On(TypeId(9)), &Row, &One), 0);
-    let sum = both(
-        rt.alloc(),
-        BinaryOp::Plus,
-        Expr::Variable(Variable::Chunk),
-        Expr::Variable(Variable::Row),
-    )?;
-    let negated = Expr::Unary(UnaryOp::Minus, Boxed::new(rt.alloc(), sum)?);
-    assert_eq!(rt; eval(&negated, &Row, &One), -10);
-    assert_eq!(rt; eval_ref(&RefExpr::Me, &Row) == ME, true);
+fn operators_at_their_ends(rt: HostRuntime) -> Result<(), Fail> {
+    for (op, a, b, value) in TABLE.iter() {
+        assert_eq!(rt; binary_value(rt.alloc(), *op, *a, *b)?, *value);
+    }
+    assert_eq!(rt; unary_value(rt.alloc(), UnaryOp::Minus, LEAST)?, LEAST);
+    assert_eq!(rt;
+        unary_value(rt.alloc(), UnaryOp::Minus, GREATEST)?,
+        -GREATEST
+    );
+    assert_eq!(rt; unary_value(rt.alloc(), UnaryOp::Minus, 5)?, -5);
+    assert_eq!(rt; unary_value(rt.alloc(), UnaryOp::Not, 0)?, 1);
+    assert_eq!(rt; unary_value(rt.alloc(), UnaryOp::Not, -5)?, 0);
+    assert_eq!(rt; unary_value(rt.alloc(), UnaryOp::Not, LEAST)?, 0);
     Ok(())
 }
 
 #[test]
-fn choices_and_variables(rt: HostRuntime) -> Result<(), Fail> {
+fn own_row(rt: HostRuntime) {
+    let number = Expr::Own {
+        ty: TypeId(3),
+        field: 0,
+    };
+    assert_eq!(rt; eval(&number, &OwnRow, &OtherRows), 5);
+    let reference = Expr::Own {
+        ty: TypeId(3),
+        field: 1,
+    };
+    assert_eq!(rt; eval(&reference, &OwnRow, &OtherRows), 0);
+    assert_eq!(rt; eval(&Expr::On(TypeId(3)), &OwnRow, &OtherRows), 1);
+    assert_eq!(rt; eval(&Expr::On(TypeId(9)), &OwnRow, &OtherRows), 0);
+    assert_eq!(rt;
+        eval(&Expr::Variable(Variable::Frame), &OwnRow, &OtherRows),
+        11
+    );
+    assert_eq!(rt;
+        eval(&Expr::Variable(Variable::Chunk), &OwnRow, &OtherRows),
+        3
+    );
+    assert_eq!(rt;
+        eval(&Expr::Variable(Variable::Row), &OwnRow, &OtherRows),
+        7
+    );
+    assert_eq!(rt;
+        eval(&Expr::Variable(Variable::Index), &OwnRow, &OtherRows),
+        4
+    );
+    assert_eq!(rt;
+        eval(&Expr::Variable(Variable::Version), &OwnRow, &OtherRows),
+        2
+    );
+    assert_eq!(rt; eval(&Expr::Variable(Variable::N), &OwnRow, &OtherRows), 13);
+}
+
+#[test]
+fn references(rt: HostRuntime) {
+    let own = RefExpr::Own {
+        ty: TypeId(3),
+        field: 1,
+    };
+    let number = RefExpr::Own {
+        ty: TypeId(3),
+        field: 0,
+    };
+    assert_eq!(rt; eval_ref(&own, &OwnRow), ME);
+    assert_eq!(rt; eval_ref(&number, &OwnRow), Entity::NULL);
+    assert_eq!(rt; eval_ref(&RefExpr::Me, &OwnRow), ME);
+    assert_eq!(rt; eval_ref(&RefExpr::Null, &OwnRow), Entity::NULL);
+    assert_eq!(rt; eval_ref(&RefExpr::Made(0), &OwnRow), Entity::NULL);
+    assert_eq!(rt; eval_ref(&RefExpr::Entity(FULL), &OwnRow), FULL);
+    assert_eq!(rt; eval(&Expr::Same(own, RefExpr::Me), &OwnRow, &OtherRows), 1);
+    assert_eq!(rt;
+        eval(&Expr::Same(number, RefExpr::Null), &OwnRow, &OtherRows),
+        1
+    );
+    assert_eq!(rt;
+        eval(
+            &Expr::Same(RefExpr::Me, RefExpr::Entity(FULL)),
+            &OwnRow,
+            &OtherRows
+        ),
+        0
+    );
+    let reborn = RefExpr::Entity(Entity {
+        index: 4,
+        version: 3,
+    });
+    assert_eq!(rt;
+        eval(&Expr::Same(RefExpr::Me, reborn), &OwnRow, &OtherRows),
+        0
+    );
+}
+
+#[test]
+fn other_rows(rt: HostRuntime) {
+    assert_eq!(rt; first_field(FULL, 5), 70);
+    assert_eq!(rt; first_field(FULL, 8), 6);
+    assert_eq!(rt; first_field(FULL, 3), 0);
+    assert_eq!(rt; first_field(FULL, 6), 0);
+    assert_eq!(rt; first_field(DYING, 6), 9);
+    assert_eq!(rt; first_field(DYING, 5), 0);
+    assert_eq!(rt; first_field(ME, 5), 0);
+    assert_eq!(rt; first_field(Entity::NULL, 5), 0);
+    let reference = Expr::Get {
+        from: RefExpr::Entity(FULL),
+        ty: TypeId(5),
+        field: 1,
+    };
+    assert_eq!(rt; eval(&reference, &OwnRow, &OtherRows), 0);
+    assert_eq!(rt; has(FULL, 3), 1);
+    assert_eq!(rt; has(FULL, 5), 1);
+    assert_eq!(rt; has(FULL, 8), 1);
+    assert_eq!(rt; has(FULL, 6), 0);
+    assert_eq!(rt; has(DYING, 6), 1);
+    assert_eq!(rt; has(Entity::NULL, 6), 0);
+    assert_eq!(rt; alive(FULL), 1);
+    assert_eq!(rt; alive(DYING), 1);
+    assert_eq!(rt; alive(Entity::NULL), 0);
+    assert_eq!(rt; eval(&Expr::Alive(RefExpr::Me), &OwnRow, &OtherRows), 0);
+    assert_eq!(rt; eval(&Expr::Alive(RefExpr::Null), &OwnRow, &OtherRows), 0);
+}
+
+#[test]
+fn choices_and_levels(rt: HostRuntime) -> Result<(), Fail> {
     let yes = Boxed::new(rt.alloc(), Expr::Number(-1))?;
     let first = Boxed::new(rt.alloc(), Expr::Variable(Variable::Frame))?;
     let second = Boxed::new(rt.alloc(), Expr::Variable(Variable::N))?;
-    assert_eq!(rt; eval(&Expr::Pick(yes, first, second), &Row, &One), 11);
+    assert_eq!(rt;
+        eval(&Expr::Pick(yes, first, second), &OwnRow, &OtherRows),
+        11
+    );
     let no = Boxed::new(rt.alloc(), Expr::Number(0))?;
     let first = Boxed::new(rt.alloc(), Expr::Variable(Variable::Index))?;
     let second = Boxed::new(rt.alloc(), Expr::Variable(Variable::Version))?;
-    assert_eq!(rt; eval(&Expr::Pick(no, first, second), &Row, &One), 2);
+    assert_eq!(rt;
+        eval(&Expr::Pick(no, first, second), &OwnRow, &OtherRows),
+        2
+    );
+    let chunk = Boxed::new(rt.alloc(), Expr::Variable(Variable::Chunk))?;
+    let row = Boxed::new(rt.alloc(), Expr::Variable(Variable::Row))?;
+    let sum = Boxed::new(rt.alloc(), Expr::Binary(BinaryOp::Plus, chunk, row))?;
+    assert_eq!(rt;
+        eval(&Expr::Unary(UnaryOp::Minus, sum), &OwnRow, &OtherRows),
+        -10
+    );
     Ok(())
 }
