@@ -1,4 +1,5 @@
--- Other rows, by their entities.
+-- Other rows, by their entities. Of two rows of one entity the first counts, and of two values of one type the first, a
+-- cell before a shared value; in a world there are no two.
 use Rattle.std.specs.Prelude.{ℕ, List, find, nat_eq, slice_get, Option, is_some, option_map, option_and_then}
 use Rattle.std.specs.Option.{option_or}
 use Rattle.ent_types.specs.declared.entity.Entity.{Entity}

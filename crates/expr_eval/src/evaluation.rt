@@ -1,6 +1,6 @@
 //! The value of an expression and of a reference.
 ghost use Rattle.std.specs.Prelude.{◌≡◌, true};
-ghost use Rattle.expr_eval.specs.Values.{value, value_ref, value_variable, number, number_or_zero, entity, same_entity};
+ghost use Rattle.expr_eval.specs.Values.{value, value_ref, value_variable, number, number_or_zero, entity};
 ghost use Rattle.expr_eval.specs.Conditions.{reads, ref_reads};
 ghost use Rattle.expr_eval.specs.Rows.{others_of};
 
@@ -39,13 +39,6 @@ fn number_or_zero(value: Option<Value>) -> i64
     }
 }
 
-/// Says whether two references are the same.
-pub(crate) fn same(d: Entity, e: Entity) -> bool
-    ensures { result ≡ same_entity d e }
-{
-    d.index == e.index && d.version == e.version
-}
-
 /// The number that a variable stands for on a row.
 fn variable<R: RowReader>(v: Variable, reader: &R) -> i64
     ensures { result ≡ value_variable (R.own_row reader.now) v }
@@ -61,7 +54,8 @@ fn variable<R: RowReader>(v: Variable, reader: &R) -> i64
     i64::from(number)
 }
 
-/// The entity that a reference names. A made name, which no expression holds, counts as null.
+/// The entity that a reference names on a row; a made name, which only command texts hold, counts as null (this
+/// project's own). An own field that it names must be there.
 pub fn eval_ref<R: RowReader>(e: &RefExpr, reader: &R) -> Entity
     requires { ref_reads (R.has_field reader.now) e.now ≡ true }
     ensures { result ≡ value_ref (R.own_row reader.now) e.now }
@@ -75,7 +69,11 @@ pub fn eval_ref<R: RowReader>(e: &RefExpr, reader: &R) -> Entity
     }
 }
 
-/// The value of an expression, wrapped to 64 bits at each operation.
+/// The value of an expression on a row beside other rows (this project's own). Arithmetic wraps to 64 bits; `/` and
+/// `%` go toward zero, and are 0 where the divisor is 0; a question gives 1 or 0, and anything but 0 is true.
+///
+/// The own fields that it names must be there, and the types of its `get`s must be among those that can be read. It
+/// takes no memory and doesn't fail.
 #[tactic(auto, using(std::proofs::lemmas::Bool::and_parts))]
 pub fn eval<R: RowReader, L: Lookup>(e: &Expr, reader: &R, lookup: &L) -> i64
     requires { reads (R.has_field reader.now) (L.can_read lookup.now) e.now ≡ true }
@@ -103,7 +101,7 @@ pub fn eval<R: RowReader, L: Lookup>(e: &Expr, reader: &R, lookup: &L) -> i64
         }
         Expr::Alive(r) => truth(lookup.alive(eval_ref(r, reader))),
         Expr::Has(r, ty) => truth(lookup.has(eval_ref(r, reader), *ty)),
-        Expr::Same(r, q) => truth(same(eval_ref(r, reader), eval_ref(q, reader))),
+        Expr::Same(r, q) => truth(eval_ref(r, reader) == eval_ref(q, reader)),
         Expr::On(ty) => truth(reader.on(*ty)),
     }
 }

@@ -20,36 +20,42 @@ pub(crate) fn is_true(a: i64) -> bool
     a != 0
 }
 
+/// The sum, wrapped to 64 bits.
 fn plus(a: i64, b: i64) -> i64
     ensures { result ≡ int_wrap w64 (a +ℤ b) }
 {
     a.wrapping_add(b)
 }
 
+/// The difference, wrapped to 64 bits.
 fn minus(a: i64, b: i64) -> i64
     ensures { result ≡ int_wrap w64 (a -ℤ b) }
 {
     a.wrapping_sub(b)
 }
 
+/// The product, wrapped to 64 bits.
 fn times(a: i64, b: i64) -> i64
     ensures { result ≡ int_wrap w64 (a *ℤ b) }
 {
     a.wrapping_mul(b)
 }
 
+/// The number with its sign changed, wrapped to 64 bits.
 fn negated(a: i64) -> i64
     ensures { result ≡ int_wrap w64 (neg_ℤ a) }
 {
     a.wrapping_neg()
 }
 
+/// The quotient toward zero; 0 where the divisor is 0.
 fn quotient(a: i64, b: i64) -> i64
     ensures { result ≡ quotient a b }
 {
     if b == 0 { 0 } else { a.wrapping_div(b) }
 }
 
+/// The rest of `quotient`, with the sign of the dividend; 0 where the divisor is 0.
 fn rest(a: i64, b: i64) -> i64
     ensures { result ≡ rest a b }
 {

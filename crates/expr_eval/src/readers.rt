@@ -7,7 +7,7 @@ ghost use Rattle.expr_eval.specs.Values.{OwnRow};
 
 use ent_types::{Entity, TypeId, Value};
 
-/// The row on which an expression is evaluated, and where that row is met.
+/// The row on which an expression is evaluated, and where that row is met (this project's own).
 pub trait RowReader {
     /// What the row is.
     ghost own_row: { Self → OwnRow };
@@ -45,7 +45,7 @@ pub trait RowReader {
         ensures { result ≡ (own_row self.now).n };
 }
 
-/// Other rows, by their entities, as far as some types of theirs can be read.
+/// Other rows, by their entities, as far as some types of theirs can be read (this project's own).
 pub trait Lookup {
     /// The rows, each with its shared values.
     ghost rows: { Self → List SeenRow };

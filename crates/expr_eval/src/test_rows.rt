@@ -1,8 +1,7 @@
-//! A row of its own and three other rows, for the tests.
+//! An own row and two other rows, for the tests.
 ghost use Rattle.std.specs.Prelude.{◌≡◌, ℕ, Bool, true, false, not, List, [], ◌∷◌, if◌then◌else◌, pos, ◌==◌, nat_lt};
 ghost use Rattle.ent_types.specs.declared.value.Value.TheVariants.{Int, Ref};
 
-use crate::evaluation::same;
 use crate::{Lookup, RowReader};
 use ent_types::{Entity, TypeId, Value};
 
@@ -103,7 +102,7 @@ impl Lookup for OtherRows {
     ghost can_read = { λ _ ty. not (ty.0 == 4) };
 
     fn value(&self, e: Entity, ty: TypeId, field: u8) -> Option<Value> {
-        if same(FULL, e) {
+        if FULL == e {
             return match (ty.0, field) {
                 (5, 0) => Some(Value::Int(70)),
                 (5, 1) => Some(Value::Ref(ME)),
@@ -111,20 +110,20 @@ impl Lookup for OtherRows {
                 _ => None,
             };
         }
-        if same(DYING, e) && ty.0 == 6 && field == 0 {
+        if DYING == e && ty.0 == 6 && field == 0 {
             return Some(Value::Int(9));
         }
         None
     }
 
     fn has(&self, e: Entity, ty: TypeId) -> bool {
-        if same(FULL, e) {
+        if FULL == e {
             return matches!(ty.0, 3 | 5 | 8);
         }
-        same(DYING, e) && ty.0 == 6
+        DYING == e && ty.0 == 6
     }
 
     fn alive(&self, e: Entity) -> bool {
-        same(FULL, e) || same(DYING, e)
+        FULL == e || DYING == e
     }
 }
