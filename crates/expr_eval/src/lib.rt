@@ -1,0 +1,13 @@
+//! The value of an expression: signed numbers of 64 bits that wrap.
+#![tactic(auto)]
+
+mod evaluation;
+mod operators;
+mod readers;
+#[cfg(test)]
+mod test_rows;
+#[cfg(test)]
+mod tests;
+
+pub use evaluation::{eval, eval_ref};
+pub use readers::{Lookup, RowReader};

@@ -1,0 +1,129 @@
+//! An own row and two other rows, for the tests.
+ghost use Rattle.std.specs.Prelude.{◌≡◌, ℕ, Bool, true, false, not, List, [], ◌∷◌, if◌then◌else◌, pos, ◌==◌, nat_lt};
+ghost use Rattle.ent_types.specs.declared.value.Value.TheVariants.{Int, Ref};
+
+use crate::{Lookup, RowReader};
+use ent_types::{Entity, TypeId, Value};
+
+/// The entity of the own row.
+pub(crate) const ME: Entity = Entity {
+    index: 4,
+    version: 2,
+};
+
+/// The own row: field 0 of each type but 4 is 5, field 1 is its own entity, and each type but 9 is on.
+#[derive(Clone, Copy, Debug)]
+pub(crate) struct OwnRow;
+
+impl RowReader for OwnRow {
+    ghost own_row = { λ _. record {
+      field = λ ty i. if i == 0 then Int (pos 5) else Ref (record { index = 4; version = 2 });
+      on = λ ty. not (ty.0 == 9);
+      me = record { index = 4; version = 2 };
+      item = 3;
+      row = 7;
+      frame = 11;
+      n = 13;
+    } };
+
+    ghost has_field = { λ _ ty i. if ty.0 == 4 then false else nat_lt i 2 };
+
+    fn field(&self, _ty: TypeId, field: u8) -> Value {
+        if field == 0 {
+            Value::Int(5)
+        } else {
+            Value::Ref(ME)
+        }
+    }
+
+    fn on(&self, ty: TypeId) -> bool {
+        ty.0 != 9
+    }
+
+    fn me(&self) -> Entity {
+        ME
+    }
+
+    fn item(&self) -> u32 {
+        3
+    }
+
+    fn row(&self) -> u32 {
+        7
+    }
+
+    fn frame(&self) -> u32 {
+        11
+    }
+
+    fn n(&self) -> u32 {
+        13
+    }
+}
+
+/// An entity with two fields of type 5, which is switched off, the tag 3 and the shared type 8.
+pub(crate) const FULL: Entity = Entity {
+    index: 1,
+    version: 1,
+};
+
+/// An entity that is dying, with one field of type 6 left.
+pub(crate) const DYING: Entity = Entity {
+    index: 2,
+    version: 3,
+};
+
+/// The rows of `FULL` and `DYING`, of which all types but 4 can be read.
+#[derive(Clone, Copy, Debug)]
+pub(crate) struct OtherRows;
+
+impl Lookup for OtherRows {
+    ghost rows = { λ _.
+        (record {
+          row = record {
+            entity = record { index = 1; version = 1 };
+            cells = (record { type_id = 3; values = []; off = false })
+                ∷ (record { type_id = 5; values = Int (pos 70) ∷ Ref (record { index = 4; version = 2 }) ∷ []; off = true })
+                ∷ [];
+            dying = false;
+          };
+          shared = (record { type_id = 8; values = Int (pos 6) ∷ [] }) ∷ [];
+        })
+        ∷ (record {
+          row = record {
+            entity = record { index = 2; version = 3 };
+            cells = (record { type_id = 6; values = Int (pos 9) ∷ []; off = false }) ∷ [];
+            dying = true;
+          };
+          shared = [];
+        })
+        ∷ [] };
+
+    ghost can_read = { λ _ ty. not (ty.0 == 4) };
+
+    fn value(&self, e: Entity, ty: TypeId, field: u8) -> Option<Value> {
+        if FULL == e {
+            return match (ty.0, field) {
+                (5, 0) => Some(Value::Int(70)),
+                (5, 1) => Some(Value::Ref(ME)),
+                (8, 0) => Some(Value::Int(6)),
+                _ => None,
+            };
+        }
+        if DYING == e && ty.0 == 6 && field == 0 {
+            return Some(Value::Int(9));
+        }
+        None
+    }
+
+    fn has(&self, e: Entity, ty: TypeId) -> bool {
+        if FULL == e {
+            return matches!(ty.0, 3 | 5 | 8);
+        }
+        DYING == e && ty.0 == 6
+    }
+
+    fn alive(&self, e: Entity) -> bool {
+        FULL == e || DYING == e
+    }
+}
