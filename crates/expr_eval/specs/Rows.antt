@@ -7,7 +7,8 @@ use Rattle.ent_types.specs.declared.entity.TypeId.{TypeId}
 use Rattle.ent_types.specs.declared.value.Value.{Value}
 use Rattle.world_model.specs.Row.{Row, Cell}
 use Rattle.world_model.specs.World.{SharedValues}
-use Rattle.expr_eval.specs.Values.{OtherRows, same_entity}
+use Rattle.world_model.specs.Enter.{same_entity}
+use Rattle.expr_eval.specs.Values.{OtherRows}
 
 -- a row, with the values of the shared types of its home
 pub record SeenRow : Type 0 where

@@ -1,5 +1,5 @@
 -- The value of an expression, wrapped to 64 bits at each operation.
-use Rattle.std.specs.Prelude.{ℕ, Bool, not, ◌&&◌, ◌||◌, if◌then◌else◌, nat_eq, ℤ, pos, neg_ℤ, ◌+ℤ◌, ◌-ℤ◌, ◌*ℤ◌, int_lt, Option, Some, None}
+use Rattle.std.specs.Prelude.{ℕ, Bool, not, ◌&&◌, ◌||◌, if◌then◌else◌, ℤ, pos, neg_ℤ, ◌+ℤ◌, ◌-ℤ◌, ◌*ℤ◌, int_lt, Option, Some, None}
 use Rattle.std.specs.Int.{int_wrap, int_wrapping_div}
 use Rattle.std.specs.Int.RustNames.{int_rem}
 use Rattle.std.specs.Ordering.{int_eq}
@@ -8,6 +8,8 @@ use Rattle.ent_types.specs.declared.entity.Entity.{Entity}
 use Rattle.ent_types.specs.declared.entity.TypeId.{TypeId}
 use Rattle.ent_types.specs.declared.value.Value.{Value}
 use Rattle.ent_types.specs.declared.value.Value.TheVariants.{Int, Ref}
+use Rattle.ent_types.specs.Fitting.{null_entity}
+use Rattle.world_model.specs.Enter.{same_entity}
 use Rattle.expr_read.specs.declared.tree.Expr.{Expr, fold-Expr}
 use Rattle.expr_read.specs.declared.tree.Expr.TheOpen.{Expr-F}
 use Rattle.expr_read.specs.declared.tree.RefExpr.{RefExpr}
@@ -37,16 +39,13 @@ pub record OtherRows : Type 0 where
   pub has : Entity → TypeId → Bool
   pub alive : Entity → Bool
 
-abbrev pub null : Entity
-null = record { index = 0; version = 0 }
-
 -- the number or the reference of a value; a value of the other kind counts as 0 or null
 abbrev pub number : Value → ℤ
 number (Int z) = z
 number (Ref e) = pos 0
 
 abbrev pub entity : Value → Entity
-entity (Int z) = null
+entity (Int z) = null_entity
 entity (Ref e) = e
 
 abbrev pub number_or_zero : Option Value → ℤ
@@ -60,14 +59,11 @@ truth b = if b then pos 1 else pos 0
 abbrev pub is_true : ℤ → Bool
 is_true z = not (int_eq z (pos 0))
 
-abbrev pub same_entity : Entity → Entity → Bool
-same_entity d e = nat_eq d.index e.index && nat_eq d.version e.version
-
 -- a reference; a made name, which no job on a row meets, counts as null
 abbrev pub value_ref : OwnRow → RefExpr → Entity
-value_ref own refs.Null = null
+value_ref own refs.Null = null_entity
 value_ref own refs.Me = own.me
-value_ref own (refs.Made k) = null
+value_ref own (refs.Made k) = null_entity
 value_ref own (refs.Own ty i) = entity (own.field ty i)
 value_ref own (refs.Entity e) = e
 
