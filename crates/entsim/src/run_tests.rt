@@ -1,6 +1,7 @@
 //! Scenarios of many spawns and systems, from the bytes of the file to the text.
 use crate::tests::{Outside, RUN, ended};
 use ent_io::Status;
+use std::alloc::Global;
 use std::test::Fail;
 
 /// A scenario, and the last lines of its run.
@@ -178,6 +179,37 @@ fn takes_as_many_entities_as_may_be(rt: HostRuntime) -> Result<(), Fail> {
         };
         let (_, text) = ended(&rt, rt.alloc(), RUN, &outside)?;
         assert!(rt; text.starts_with(first));
+    }
+    Ok(())
+}
+
+/// A scenario that declares so many types.
+fn with_types(alloc: Global, count: u32) -> Result<Vec<u8>, Fail> {
+    let mut text = Vec::from_slice(alloc, b"frames = 0\n")?;
+    for number in 0..count {
+        let digits = number.to_string(alloc)?;
+        text.extend_from_slice(b"[[type]]\nfields = [\"v:i32\"]\nname = \"T")?;
+        text.extend_from_slice(digits.as_bytes())?;
+        text.extend_from_slice(b"\"\n")?;
+    }
+    Ok(text)
+}
+
+#[test]
+fn takes_64_types_and_no_more(rt: HostRuntime) -> Result<(), Fail> {
+    let cases: [(u32, &[u8]); 2] = [
+        (64, b"world frames=0 entities=0\n"),
+        (65, b"error scenario cause=NotBuilt\n"),
+    ];
+    for (count, line) in cases {
+        let scenario = with_types(rt.alloc(), count)?;
+        let outside = Outside {
+            file: Some(&scenario),
+            reads: &[],
+            writes: &[],
+        };
+        let (_, text) = ended(&rt, rt.alloc(), RUN, &outside)?;
+        assert_eq!(rt; text.as_slice(), line);
     }
     Ok(())
 }
