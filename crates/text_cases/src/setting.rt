@@ -1,5 +1,6 @@
 //! Where the texts of some cases stand.
-ghost use Rattle.std.specs.Prelude.{◌≡◌};
+ghost use Rattle.std.specs.Prelude.{◌≡◌, [], IfOk};
+ghost use Rattle.ent_types.specs.Registries.{built_in_types};
 
 use crate::fault::LineFault;
 use crate::types::{name_of, read_type};
@@ -18,7 +19,12 @@ pub struct Setting {
 
 impl Setting {
     /// The setting with the built-in types alone.
-    pub fn new(alloc: Global, place: TextPlace) -> Result<Setting, Memory> {
+    pub fn new(alloc: Global, place: TextPlace) -> Result<Setting, Memory>
+        ensures registry { IfOk result (λ s. s.registry ≡ built_in_types) }
+        ensures place { IfOk result (λ s. s.place ≡ place) }
+        ensures bound { IfOk result (λ s. s.bound ≡ []) }
+        ensures made { IfOk result (λ s. s.made.items ≡ []) }
+    {
         Ok(Setting {
             registry: Registry::new(alloc)?,
             place,

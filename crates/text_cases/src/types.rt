@@ -1,4 +1,6 @@
 //! The types that a table declares.
+ghost use Rattle.std.specs.Prelude.{◌≡◌, Some, None, MatchResult};
+ghost use Rattle.ent_types.specs.Names.{name_of};
 
 use crate::fault::LineFault;
 use ent_types::{FieldInfo, FieldKind, Kind, Name, Sequence, TypeInfo};
@@ -38,7 +40,9 @@ fn read_field(word: &str) -> Result<FieldInfo, LineFault> {
 }
 
 /// The name that a word is.
-pub fn name_of(word: &str) -> Result<Name, LineFault> {
+pub fn name_of(word: &str) -> Result<Name, LineFault>
+    ensures { MatchResult result (λ name. name_of word.now ≡ Some name) (λ _. name_of word.now ≡ None) }
+{
     Name::of(word.as_bytes()).ok_or(LineFault::Name)
 }
 
