@@ -1,6 +1,7 @@
 pub mod DistinctNames
 pub mod LawfulTypes
 pub mod Lookups
+pub mod NameText
 pub mod Padding
 pub mod TypeBits
 pub mod TypeCounts

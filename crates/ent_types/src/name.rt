@@ -1,5 +1,5 @@
 //! Names of types, fields, systems, groups and loads.
-ghost use Rattle.std.specs.Prelude.{◌≡◌, ◌==◌, ◌<◌, ◌≤◌, length};
+ghost use Rattle.std.specs.Prelude.{◌≡◌, ◌==◌, ◌<◌, ◌≤◌, length, IsTrue};
 ghost use Rattle.std.specs.Prelude.{Some, nat_eq, refl};
 ghost use Rattle.std.specs.List.{list_all};
 ghost use Rattle.std.specs.Ordering.{nat_cmp};
@@ -11,9 +11,9 @@ ghost use Rattle.std.proofs.Common.{rules};
 ghost use Rattle.ent_types.specs.Names.{is_name, is_name_start, is_name_byte, name_of};
 
 use std::cmp::Ordering;
-use std::fmt;
 use std::hash::{Hash, Hasher};
 use std::marker::Model;
+use std::{fmt, str};
 
 /// The greatest number of bytes of a name.
 pub const LONGEST_NAME: usize = 32;
@@ -152,5 +152,16 @@ impl Name {
         ensures { result.now ≡ self.now }
     {
         &self.bytes[..self.len as usize]
+    }
+
+    /// The name as a text.
+    pub fn as_str(&self) -> &str
+        ensures text { result.now ≡ self.now }
+        ensures name { IsTrue (is_name self.now) }
+    {
+        match str::from_utf8(&self.bytes[..self.len as usize]) {
+            Ok(text) => text,
+            Err(_) => unreachable!(),
+        }
     }
 }

@@ -8,6 +8,9 @@ pub mod FirstFaults
 mod Keeps
 mod NewNames
 mod Prefixes
+mod PrintedNames
+pub mod PrintedTokens
+pub mod PrintedTrees
 pub mod Raised
 mod ReadExprs
 mod ReadRefs

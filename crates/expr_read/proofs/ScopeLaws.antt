@@ -41,7 +41,7 @@ module _ {X : Type 0} (name : X → List ℕ) (d : X) where
   apart (x ∷ xs) (suc j) (suc k) distinct below within =
       apart xs j k (and_parts _ _ distinct).1 (omega arith) (omega arith)
 
-  place_of : (xs : List X) (k : ℕ) → are_distinct (map name xs) ≡ true → k < length xs
+  pub place_of : (xs : List X) (k : ℕ) → are_distinct (map name xs) ≡ true → k < length xs
       → position (λ x. same_name (name (get_or xs k d)) (name x)) xs ≡ Some k
   place_of xs k distinct within =
       let there : position_or_len (λ x. same_name (name (get_or xs k d)) (name x)) xs ≡ k =

@@ -8,6 +8,8 @@ pub mod Languages
 pub mod Machine
 pub mod Meaning
 pub mod ScopeOf
+pub mod PrintedTexts
+pub mod Printing
 pub mod Scopes
 pub mod Reader
 pub mod Readings

@@ -13,6 +13,7 @@ mod laws;
 mod names;
 mod pending;
 mod places;
+mod print;
 mod read;
 mod readers;
 mod scope;
@@ -30,6 +31,7 @@ pub use fault::{ExprCause, ExprFault};
 pub use laws::{
     goes_on_with_the_grammar, machine_reads_the_grammar, one_derivation, stops_at_the_first_fault,
 };
+pub use print::print_expr;
 pub use readers::{read_assign, read_expr, read_ref, read_switch};
 pub use scope::{Made, Scope, TextPlace};
 pub use tree::{

@@ -1,4 +1,4 @@
-mod Fronts
-mod Signs
-mod Texts
+pub mod Fronts
+pub mod Signs
+pub mod Texts
 mod Unique

@@ -10,7 +10,7 @@ use Rattle.expr_tokens.specs.Seen.{seen}
 use Rattle.expr_tokens.specs.Tokens.{Token, word, number, sign, bad, Placed, IsSpace, Spans, AreTokens}
 
 -- a space in front moves the tokens by one place
-after_space : (from : ℕ) (text : List ℕ) (ps : List Placed) → AreTokens (from + 1) text ps → AreTokens from (32 ∷ text) ps
+pub after_space : (from : ℕ) (text : List ℕ) (ps : List Placed) → AreTokens (from + 1) text ps → AreTokens from (32 ∷ text) ps
 after_space from text [] all = All-cons IsSpace 32 text refl all
 after_space from text (p ∷ ps) (gap, n, next, rest) = (
   suc gap,
