@@ -32,7 +32,7 @@ same_built : (a b : List Built) → Some a ≡ Some b → a ≡ b
 same_built a b e = cc
 
 module _ (s : Scope) (lawful : IsLawful s) (limit : ℕ) where
-  value_built : (b : Bool) (v : Value) (bs : List Built) → FitsValue s limit false b v → run s limit (value_place b ∷ []) bs (spell_value v []) ≡ Some (built_value v ∷ bs)
+  value_built : (b : Bool) (v : Value) (bs : List Built) → FitsValue s limit false b v → run s limit (value_place false b ∷ []) bs (spell_value v []) ≡ Some (built_value v ∷ bs)
   value_built true (int e) bs fits = absurd fits
   value_built true (ref r) bs fits = complete_ref s lawful limit r false [] bs [] fits refl ∙ run_nothing s lawful limit (built.Ref (meaning_ref r) ∷ bs)
   value_built false (int e) bs fits = complete s lawful limit e 5 0 [] bs [] fits refl ∙ run_nothing s lawful limit (built.Int (meaning e) ∷ bs)
@@ -46,15 +46,15 @@ module _ (s : Scope) (lawful : IsLawful s) (limit : ℕ) where
     built : ws ≡ built_value value ∷ bs
 
   value_of : (b : Bool) (v : Value) (bs : List Built) (ts : List Token) (ws : List Built) → FitsValue s limit false b v → spell_value v [] ≡ ts
-      → run s limit (value_place b ∷ []) bs ts ≡ Some ws → ValueRead b bs ts ws
+      → run s limit (value_place false b ∷ []) bs ts ≡ Some ws → ValueRead b bs ts ws
   value_of b v bs ts ws fits tokens h = record {
     value = v;
     fits = fits;
     tokens = tokens;
-    built = same_built ws (built_value v ∷ bs) (sym h ∙ ap (λ k. run s limit (value_place b ∷ []) bs k) (sym tokens) ∙ value_built b v bs fits);
+    built = same_built ws (built_value v ∷ bs) (sym h ∙ ap (λ k. run s limit (value_place false b ∷ []) bs k) (sym tokens) ∙ value_built b v bs fits);
   }
 
-  value_read : (b : Bool) (bs : List Built) (ts : List Token) (ws : List Built) → run s limit (value_place b ∷ []) bs ts ≡ Some ws → ValueRead b bs ts ws
+  value_read : (b : Bool) (bs : List Built) (ts : List Token) (ws : List Built) → run s limit (value_place false b ∷ []) bs ts ≡ Some ws → ValueRead b bs ts ws
   value_read true bs ts ws h =
       let r = read_ref s limit false [] bs ts ws h in
       let none = nothing_left s lawful limit r.built r.rest ws r.goes_on in
@@ -78,7 +78,7 @@ module _ (s : Scope) (lawful : IsLawful s) (limit : ℕ) where
       run_take s limit (wait.TypeField Assigned) [] [] (word a.ty_name) _ _ (take_type_field s limit Assigned a.ty_name a.ty (typed s lawful limit Assigned a.ty_name a.ty a.field_name a.place fits.0))
       ∙ run_take s limit wait.Dot _ [] (sign Dot) _ [] (take_dot_sign s limit)
       ∙ run_take s limit (wait.Field a.ty Assigned) [] [] (word a.field_name) _ _ (take_field s limit Assigned a.ty a.field_name a.place fits.0.1)
-      ∙ run_do s limit (act.Field a.ty a.place) (wait.Becomes ∷ value_place (s.is_ref a.ty a.place) ∷ []) [] _
+      ∙ run_do s limit (act.Field a.ty a.place) (wait.Becomes ∷ value_place false (s.is_ref a.ty a.place) ∷ []) [] _
       ∙ run_take s limit wait.Becomes _ _ (sign Becomes) _ [] (take_becomes s limit)
       ∙ value_built (s.is_ref a.ty a.place) a.value (built.Field a.ty a.place ∷ []) fits.1
 
@@ -94,8 +94,8 @@ module _ (s : Scope) (lawful : IsLawful s) (limit : ℕ) where
       let t = read_type_field s limit Assigned [] [] ts ws h in
       let d = read_dot s limit (wait.Field t.ty Assigned ∷ []) [] t.rest ws t.goes_on in
       let f = read_field s limit Assigned t.ty [] [] d.rest ws d.goes_on in
-      let g = sym (run_do s limit (act.Field t.ty f.place) (wait.Becomes ∷ value_place (s.is_ref t.ty f.place) ∷ []) [] f.rest) ∙ f.goes_on in
-      let b = read_becomes s limit (value_place (s.is_ref t.ty f.place) ∷ []) (built.Field t.ty f.place ∷ []) f.rest ws g in
+      let g = sym (run_do s limit (act.Field t.ty f.place) (wait.Becomes ∷ value_place false (s.is_ref t.ty f.place) ∷ []) [] f.rest) ∙ f.goes_on in
+      let b = read_becomes s limit (value_place false (s.is_ref t.ty f.place) ∷ []) (built.Field t.ty f.place ∷ []) f.rest ws g in
       let v = value_read (s.is_ref t.ty f.place) (built.Field t.ty f.place ∷ []) b.rest ws b.goes_on in
       record {
         text = record { ty_name = t.name; ty = t.ty; field_name = f.name; place = f.place; value = v.value };

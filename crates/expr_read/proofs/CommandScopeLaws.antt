@@ -1,5 +1,5 @@
 -- The scope of a real place has what the theory of commands asks of it.
-use Rattle.std.proofs.Common.{ℕ, zero, suc, ◌≡◌, ◌+◌, ◌<◌, ◌^◌, List, [], ◌∷◌, Bool, true, false, not, ◌&&◌, Some, length, ap, ◌∙◌, arith, inl, inr}
+use Rattle.std.proofs.Common.{ℕ, zero, suc, ◌≡◌, ◌+◌, ◌<◌, ◌^◌, List, [], ◌∷◌, Bool, true, false, not, ◌&&◌, Some, length, refl, ap, ◌∙◌, arith, inl, inr}
 use Rattle.std.proofs.lemmas.Bool.{and_parts, and_from, or_cases, or_left, or_right, ltb-true, not-true, not_from_false, false≢true}
 use Rattle.ent_types.specs.declared.entity.TypeId.{TypeId}
 use Rattle.ent_types.specs.declared.type_info.TypeInfo.{TypeInfo}
@@ -44,4 +44,4 @@ module _ (types : List TypeInfo) (lawful : IsLawfulRegistry types) (place : Text
       (and_from _ _ allowed (not_from_false _ unlisted))
 
   pub scope_serves_commands : length made < 2 ^ 64 → ServesCommands (scope_of types place bound made)
-  scope_serves_commands few = record { type_there = type_there; type_known = type_known; new_there = new_name made few }
+  scope_serves_commands few = record { type_there = type_there; type_known = type_known; holds_none = λ ty. refl; holds_more = λ u used ty. refl; new_there = new_name made few }

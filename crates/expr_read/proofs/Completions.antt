@@ -1,5 +1,5 @@
 -- Whatever the machine waits for in the middle of a text can be completed.
-use Rattle.std.proofs.Common.{ℕ, zero, suc, ◌≡◌, List, [], ◌∷◌, ◌++◌, Bool, true, false, ◌&&◌, ◌||◌, Option, Some, None, refl, ◌∙◌, lit<}
+use Rattle.std.proofs.Common.{ℕ, zero, suc, ◌≡◌, List, [], ◌∷◌, ◌++◌, Bool, true, false, ◌&&◌, ◌||◌, ◌+◌, drop, Option, Some, None, refl, sym, ap, subst, ◌∙◌, lit<}
 use Rattle.std.proofs.lemmas.Bool.{false≢true, ltb-true}
 use Rattle.std.specs.Prelude.{nat_lt, is_some, pos, codes}
 use Rattle.ent_types.specs.declared.entity.TypeId.{TypeId}
@@ -20,10 +20,14 @@ use Rattle.expr_read.specs.declared.words.Call.TheVariants as calls
 use Rattle.expr_read.specs.declared.words.FieldUse.{FieldUse}
 use Rattle.expr_read.specs.declared.words.FieldUse.TheVariants.{Number as NumberField, Entity as EntityField, Looked, Assigned}
 use Rattle.expr_read.specs.declared.words.TypeUse.{TypeUse}
-use Rattle.expr_read.specs.declared.words.TypeUse.TheVariants.{Asked, Own}
+use Rattle.expr_read.specs.declared.words.TypeUse.TheVariants.{Asked, Own, Added}
+use Rattle.expr_read.specs.declared.words.Verb.TheVariants as verbs
+use Rattle.ent_types.specs.TypeSets.{with_type}
+use Rattle.expr_read.specs.CommandScopes.{ServesCommands}
+use Rattle.expr_read.proofs.CommandTakes.{drop_next, first_split, take_no_more, take_next_value, take_first_value, take_part, take_joined, joined_append, take_new, take_from, take_verb}
 use Rattle.expr_read.specs.Grammar.{called, plain, number}
 use Rattle.expr_read.specs.Scopes.{Scope, IsLawful}
-use Rattle.expr_read.specs.Machine.{may_end, ended, run, finish, arguments, behind_field, value_place, apply, field_type}
+use Rattle.expr_read.specs.Machine.{may_end, ended, run, finish, arguments, behind_field, value_place, apply, field_type, ids, kind_at, first_of, values_of}
 use Rattle.expr_read.proofs.Runs.{run_take, run_end, run_do, stops}
 use Rattle.expr_read.proofs.Takes.{take_close, take_comma, take_dot_sign, take_becomes, take_dot, take_arguments, take_field, take_type_field, take_ref_dot, take_colon, take_version, named_leaves}
 use Rattle.expr_read.proofs.Complete.{level_split, complete, complete_ref, stop_tail, end_plain, type_alone}
@@ -35,6 +39,9 @@ soft (wait.Close ∷ below) = true
 soft (wait.Comma ∷ below) = true
 soft (wait.Do a ∷ below) = soft below
 soft (wait.Tail level d ∷ below) = soft below
+soft (wait.Type role ∷ below) = true
+soft (wait.Part role ∷ below) = true
+soft (wait.MoreValues ty at ∷ below) = true
 soft (symbol ∷ below) = false
 
 module _ (s : Scope) (lawful : IsLawful s) (limit : ℕ) where
@@ -56,6 +63,13 @@ module _ (s : Scope) (lawful : IsLawful s) (limit : ℕ) where
   Ready (wait.Field ty role) = s.has_field role ty ≡ true
   Ready (wait.TypeField role) = NamedType (s.has_field role)
   Ready (wait.Type role) = NamedType (s.allows role)
+  Ready wait.Verb = ServesCommands s
+  Ready wait.New = ServesCommands s
+  Ready wait.With = ServesCommands s
+  Ready (wait.Part role) = NamedType (s.allows role)
+  Ready (wait.Parts used) = ServesCommands s × (s.has_type Added (ids used) ≡ true)
+  Ready (wait.MoreParts used) = ServesCommands s
+  Ready (wait.Values ty) = (k : Bool) × (kind_at (s.refs ty) 0 ≡ Some k)
   Ready symbol = Unit {0}
 
   -- what has to stand below it
@@ -67,6 +81,10 @@ module _ (s : Scope) (lawful : IsLawful s) (limit : ℕ) where
   Needs (wait.Ref made) below = soft below ≡ true
   Needs (wait.Field ty role) below = soft below ≡ true
   Needs (wait.TypeField role) below = soft below ≡ true
+  Needs wait.Verb below = below ≡ []
+  Needs wait.With below = below ≡ wait.Do act.Create ∷ []
+  Needs (wait.Parts used) below = below ≡ wait.Do act.Create ∷ []
+  Needs (wait.MoreParts used) below = below ≡ wait.Do act.Create ∷ []
   Needs symbol below = Unit {0}
 
   abbrev pub Good : List Symbol → Type 0
@@ -148,20 +166,20 @@ module _ (s : Scope) (lawful : IsLawful s) (limit : ℕ) where
   at_type : (role : TypeUse) (below : List Symbol) → NamedType (s.allows role) → Completion below → Completion (wait.Type role ∷ below)
   at_type role below t c = record {
     us = word t.0 ∷ c.us;
-    stop_there = λ h. absurd (false≢true h);
+    stop_there = λ h level. refl;
     builds = λ bs. let w = c.builds (built.Type t.1 ∷ bs) in (w.0, type_alone s lawful limit role t.0 t.1 below bs c.us (t.2, t.3) ∙ w.1);
   }
 
-  at_value : (b : Bool) (below : List Symbol) → soft below ≡ true → Completion below → Completion (value_place b ∷ below)
-  at_value true below n c = at_ref false below n c
-  at_value false below n c = at_level 5 0 below n c
+  at_value : (made b : Bool) (below : List Symbol) → soft below ≡ true → Completion below → Completion (value_place made b ∷ below)
+  at_value made true below n c = at_ref made below n c
+  at_value made false below n c = at_level 5 0 below n c
 
   -- behind a field
   at_behind : (role : FieldUse) (ty : TypeId) (i : ℕ) (below : List Symbol) → soft below ≡ true → Completion below → Completion (behind_field s role ty i ++ below)
   at_behind NumberField ty i below n c = at_do _ below c
   at_behind EntityField ty i below n c = at_do _ below c
   at_behind Looked ty i below n c = at_do _ below c
-  at_behind Assigned ty i below n c = at_do _ _ (at_becomes _ (at_value (s.is_ref ty i) below n c))
+  at_behind Assigned ty i below n c = at_do _ _ (at_becomes _ (at_value false (s.is_ref ty i) below n c))
 
   at_field : (role : FieldUse) (ty : TypeId) (below : List Symbol) → s.has_field role ty ≡ true → soft below ≡ true → Completion below → Completion (wait.Field ty role ∷ below)
   at_field role ty below has n c =
@@ -251,6 +269,101 @@ module _ (s : Scope) (lawful : IsLawful s) (limit : ℕ) where
         builds = λ bs. let w = b.builds bs in (w.0, run_take s limit (wait.Colon i) below bs (sign Colon) b.us _ (take_colon s limit i) ∙ w.1);
       }
 
+  -- the values of a part that are left
+  at_more_values : (ks : List Bool) (ty : TypeId) (at : ℕ) (below : List Symbol) → drop at (s.refs ty) ≡ ks → Completion below → Completion (wait.MoreValues ty at ∷ below)
+  at_more_values [] ty at below e c = record {
+    us = sign Close ∷ c.us;
+    stop_there = λ h level. refl;
+    builds = λ bs. let w = c.builds bs in (w.0, run_take s limit (wait.MoreValues ty at) below bs (sign Close) c.us [] (take_no_more s limit ty at (ap first_of e)) ∙ w.1);
+  }
+  at_more_values (k ∷ ks) ty at below e c =
+      let b = at_value true k _ refl (at_do act.Value _ (at_more_values ks ty (at + 1) below (drop_next at (s.refs ty) k ks e) c)) in
+      record {
+        us = sign Comma ∷ b.us;
+        stop_there = λ h level. refl;
+        builds = λ bs. let w = b.builds bs in (w.0, run_take s limit (wait.MoreValues ty at) below bs (sign Comma) b.us _ (take_next_value s limit ty at k (ap first_of e)) ∙ w.1);
+      }
+
+  at_values : (ty : TypeId) (k : Bool) (below : List Symbol) → kind_at (s.refs ty) 0 ≡ Some k → Completion below → Completion (wait.Values ty ∷ below)
+  at_values ty k below e c =
+      let r = first_split (s.refs ty) k e in
+      let b = at_value true k _ refl (at_do act.Value _ (at_more_values r.0 ty 1 below (drop_next 0 (s.refs ty) k r.0 r.1) c)) in
+      record {
+        us = sign Open ∷ b.us;
+        stop_there = λ h. absurd (false≢true h);
+        builds = λ bs. let w = b.builds bs in (w.0, run_take s limit (wait.Values ty) below bs (sign Open) b.us _ (take_first_value s limit ty k e) ∙ w.1);
+      }
+
+  at_values_of : (ty : TypeId) (o : Option Bool) (below : List Symbol) → kind_at (s.refs ty) 0 ≡ o → Completion below → Completion (values_of ty o ++ below)
+  at_values_of ty None below e c = c
+  at_values_of ty (Some k) below e c = at_values ty k below e c
+
+  at_part : (role : TypeUse) (below : List Symbol) → NamedType (s.allows role) → Completion below → Completion (wait.Part role ∷ below)
+  at_part role below t c =
+      let b = at_do (act.Part t.1) _ (at_values_of t.1 (kind_at (s.refs t.1) 0) below refl c) in
+      record {
+        us = word t.0 ∷ b.us;
+        stop_there = λ h level. refl;
+        builds = λ bs. let w = b.builds bs in (w.0, run_take s limit (wait.Part role) below bs (word t.0) b.us _ (take_part s limit role t.0 t.1 (t.2, t.3)) ∙ w.1);
+      }
+
+  -- a symbol that may end above the end of a creation
+  at_end : (x : Symbol) (below : List Symbol) → may_end x ≡ true → below ≡ wait.Do act.Create ∷ [] → Completion (x ∷ below)
+  unfolding run finish
+  at_end x below ends is =
+      subst (λ w. Completion (x ∷ w)) (sym is) (record {
+        us = [];
+        stop_there = λ h level. refl;
+        builds = λ bs. (apply act.Create (ended x bs), run_end s limit x (wait.Do act.Create ∷ []) bs [] ends tt ∙ run_do s limit act.Create [] (ended x bs) []);
+      })
+
+  at_with : (below : List Symbol) → below ≡ wait.Do act.Create ∷ [] → Completion (wait.With ∷ below)
+  unfolding may_end
+  at_with below is = at_end wait.With below refl is
+
+  at_more_parts : (used : List ℕ) (below : List Symbol) → below ≡ wait.Do act.Create ∷ [] → Completion (wait.MoreParts used ∷ below)
+  unfolding may_end
+  at_more_parts used below is = at_end (wait.MoreParts used) below refl is
+
+  at_parts : (used : List ℕ) (below : List Symbol) → Ready (wait.Parts used) → below ≡ wait.Do act.Create ∷ [] → Completion (wait.Parts used ∷ below)
+  at_parts used below r is =
+      let t = r.0.type_there Added (ids used) r.1 in
+      let more = at_do act.Join _ (at_more_parts (with_type used t.1.0) below is) in
+      let b = at_do (act.Part t.1) _ (at_values_of t.1 (kind_at (s.refs t.1) 0) _ refl more) in
+      record {
+        us = word t.0 ∷ b.us;
+        stop_there = λ h. absurd (false≢true h);
+        builds = λ bs. let w = b.builds bs in
+        (w.0, run_take s limit (wait.Parts used) below bs (word t.0) b.us _ (take_joined s limit used t.0 t.1 t.2 t.3 t.4)
+        ∙ ap (λ l. run s limit l bs b.us) (joined_append s used t.1 below) ∙ w.1);
+      }
+
+  at_new : (below : List Symbol) → ServesCommands s → Completion below → Completion (wait.New ∷ below)
+  at_new below serves c =
+      let n = serves.new_there in
+      let b = at_do (act.New n.0) below c in
+      record {
+        us = word n.0 ∷ b.us;
+        stop_there = λ h. absurd (false≢true h);
+        builds = λ bs. let w = b.builds bs in (w.0, run_take s limit wait.New below bs (word n.0) b.us _ (take_new s limit n.0 n.1) ∙ w.1);
+      }
+
+  at_from : (below : List Symbol) → Completion below → Completion (wait.From ∷ below)
+  at_from below c = record {
+    us = word (codes "from") ∷ c.us;
+    stop_there = λ h. absurd (false≢true h);
+    builds = λ bs. let w = c.builds bs in (w.0, run_take s limit wait.From below bs (word (codes "from")) c.us [] (take_from s limit) ∙ w.1);
+  }
+
+  at_verb : (below : List Symbol) → below ≡ [] → Completion below → Completion (wait.Verb ∷ below)
+  at_verb below is c =
+      let b = at_ref true (wait.Do act.Destroy ∷ below) (ap soft is) (at_do act.Destroy below c) in
+      record {
+        us = word (codes "destroy") ∷ b.us;
+        stop_there = λ h. absurd (false≢true h);
+        builds = λ bs. let w = b.builds bs in (w.0, run_take s limit wait.Verb below bs (word (codes "destroy")) b.us _ (take_verb s limit verbs.Destroy refl) ∙ w.1);
+      }
+
   at_symbol : (x : Symbol) (below : List Symbol) → Ready x → Needs x below → Completion below → Completion (x ∷ below)
   at_symbol (wait.Level level d) below r n c = at_level level d below n c
   at_symbol (wait.Tail level d) below r n c = at_tail level d below n c
@@ -267,6 +380,15 @@ module _ (s : Scope) (lawful : IsLawful s) (limit : ℕ) where
   at_symbol (wait.Version i) below r n c = at_version i below c
   at_symbol (wait.Type role) below r n c = at_type role below r c
   at_symbol (wait.Do a) below r n c = at_do a below c
+  at_symbol wait.Verb below r n c = at_verb below n c
+  at_symbol wait.New below r n c = at_new below r c
+  at_symbol wait.From below r n c = at_from below c
+  at_symbol wait.With below r n c = at_with below n
+  at_symbol (wait.Part role) below r n c = at_part role below r c
+  at_symbol (wait.Parts used) below r n c = at_parts used below r n
+  at_symbol (wait.MoreParts used) below r n c = at_more_parts used below n
+  at_symbol (wait.Values ty) below r n c = at_values ty r.0 below r.1 c
+  at_symbol (wait.MoreValues ty at) below r n c = at_more_values (drop at (s.refs ty)) ty at below refl c
 
   pub completes : (waits : List Symbol) → Good waits → Completion waits
   completes [] g = nothing

@@ -1,5 +1,5 @@
 -- Each step of the machine leaves what can be completed.
-use Rattle.std.proofs.Common.{ℕ, zero, suc, ◌≡◌, List, [], ◌∷◌, ◌++◌, ⊎_elim, Bool, true, false, cond, Option, Some, None, refl, sym, subst, append_assoc}
+use Rattle.std.proofs.Common.{ℕ, zero, suc, ◌≡◌, List, [], ◌∷◌, ◌++◌, ◌+◌, ⊎_elim, Bool, true, false, cond, Option, Some, None, refl, sym, ap, subst, append_assoc}
 use Rattle.ent_types.specs.declared.entity.TypeId.{TypeId}
 use Rattle.expr_tokens.specs.Tokens.{Token, word, number as numeral, sign, bad}
 use Rattle.expr_tokens.specs.declared.sign.Sign.TheVariants.{Close, Comma, Dot, Assign}
@@ -12,11 +12,16 @@ use Rattle.expr_read.specs.declared.words.Call.TheVariants as calls
 use Rattle.expr_read.specs.declared.words.FieldUse.{FieldUse}
 use Rattle.expr_read.specs.declared.words.FieldUse.TheVariants.{Number as NumberField, Entity as EntityField, Looked, Assigned}
 use Rattle.expr_read.specs.declared.words.TypeUse.{TypeUse}
-use Rattle.expr_read.specs.Fitting.{associates}
+use Rattle.expr_read.specs.declared.words.Verb.{Verb}
+use Rattle.expr_read.specs.declared.words.Verb.TheVariants as verbs
+use Rattle.expr_read.specs.CommandScopes.{ServesCommands}
+use Rattle.expr_read.specs.Fitting.{associates, part_use, turn_use}
 use Rattle.expr_read.specs.Scopes.{Scope, IsLawful}
-use Rattle.expr_read.specs.Machine.{State, take, may_end, ended, settle, onward, tails, arguments, behind_field, value_place, kept, field_type, take_operand}
+use Rattle.expr_read.specs.Machine.{State, take, may_end, ended, settle, onward, tails, arguments, behind_field, value_place, kept, field_type, take_operand, behind_verb, may_begin, values_of, kind_at, part_places, joined_part}
 use Rattle.expr_read.proofs.ReadRefs.{map_inv, kept_inv, ref_inv, colon_inv, version_inv, dot_inv}
 use Rattle.expr_read.proofs.ReadExprs.{Begun, by_number, by_open, by_sign, by_name, begun, Followed, by_dot, by_call, followed, operated}
+use Rattle.expr_read.proofs.CommandTakes.{joined_append}
+use Rattle.expr_read.proofs.CommandSteps.{verb_inv, new_inv, from_inv, with_inv, part_inv, joined_inv, comma_of_parts_inv, first_value_inv, more_values_inv}
 use Rattle.expr_read.proofs.Completions.{soft, Good, Ready, Needs, CanCall}
 
 abbrev waits_of : State → List Symbol
@@ -124,17 +129,17 @@ module _ (s : Scope) (lawful : IsLawful s) (limit : ℕ) where
   good_arguments calls.Same d below can g = (tt, refl, (tt, tt, (tt, refl, (tt, tt, (tt, tt, g)))))
   good_arguments calls.On d below can g = (can, tt, (tt, tt, (tt, tt, g)))
 
-  good_value : (b : Bool) (below : List Symbol) → soft below ≡ true → Kept below → Kept (value_place b ∷ below)
+  good_value : (made b : Bool) (below : List Symbol) → soft below ≡ true → Kept below → Kept (value_place made b ∷ below)
   unfolding Kept
-  good_value true below n g = (tt, n, g)
-  good_value false below n g = (tt, n, g)
+  good_value made true below n g = (tt, n, g)
+  good_value made false below n g = (tt, n, g)
 
   good_behind : (role : FieldUse) (ty : TypeId) (i : ℕ) (below : List Symbol) → soft below ≡ true → Kept below → Kept (behind_field s role ty i ++ below)
   unfolding Kept
   good_behind NumberField ty i below n g = (tt, tt, g)
   good_behind EntityField ty i below n g = (tt, tt, g)
   good_behind Looked ty i below n g = (tt, tt, g)
-  good_behind Assigned ty i below n g = (tt, tt, (tt, tt, good_value (s.is_ref ty i) below n g))
+  good_behind Assigned ty i below n g = (tt, tt, (tt, tt, good_value false (s.is_ref ty i) below n g))
 
   good_operand : (d : ℕ) (t : Token) (new below : List Symbol) → soft below ≡ true → Kept below → Begun s limit d t new → Kept (new ++ below)
   unfolding Kept
@@ -155,6 +160,33 @@ module _ (s : Scope) (lawful : IsLawful s) (limit : ℕ) where
   unfolding Kept
   good_named v ty call d t new below r n g (by_dot u is known leaves) = moved below _ new leaves (r.1 u known, n, g)
   good_named v ty call d t new below r n g (by_call c is known deep leaves) = moved below _ new leaves (good_arguments c (suc d) below (r.2 c known) g)
+
+  -- behind the word of a command
+  good_verb : (v : Verb) (below : List Symbol) → ServesCommands s → may_begin s v ≡ true → below ≡ [] → Kept below → Kept (behind_verb v ++ below)
+  unfolding Kept
+  good_verb verbs.Create below r may n g = (r, tt, (tt, tt, (r, ap (λ w. wait.Do act.Create ∷ w) n, (tt, tt, g))))
+  good_verb verbs.Destroy below r may n g = (tt, ap soft n, (tt, tt, g))
+  good_verb (verbs.Change c) below r may n g = let w = r.type_there (part_use c) [] may in (tt, refl, ((w.0, w.1, w.2, w.3), tt, (tt, tt, g)))
+  good_verb (verbs.Turn t) below r may n g = let w = r.type_there (turn_use t) [] may in (tt, refl, ((w.0, w.1, w.2, w.3), tt, (tt, tt, g)))
+  good_verb verbs.Instantiate below r may n g = (r, tt, (tt, tt, (tt, ap soft n, (tt, tt, g))))
+
+  good_values_of : (ty : TypeId) (o : Option Bool) (below : List Symbol) → kind_at (s.refs ty) 0 ≡ o → Kept below → Kept (values_of ty o ++ below)
+  unfolding Kept
+  good_values_of ty None below e g = g
+  good_values_of ty (Some k) below e g = ((k, e), tt, g)
+
+  good_part : (ty : TypeId) (below : List Symbol) → Kept below → Kept (part_places s ty ++ below)
+  unfolding Kept
+  good_part ty below g = (tt, tt, good_values_of ty (kind_at (s.refs ty) 0) below refl g)
+
+  good_joined : (used : List ℕ) (ty : TypeId) (below : List Symbol) → ServesCommands s → below ≡ wait.Do act.Create ∷ [] → Kept below → Kept (joined_part s used ty ++ below)
+  unfolding Kept
+  good_joined used ty below r n g =
+      subst (λ w. Kept w) (sym (joined_append s used ty below)) (tt, tt, good_values_of ty (kind_at (s.refs ty) 0) _ refl (tt, tt, (r, n, g)))
+
+  good_next_value : (ty : TypeId) (at : ℕ) (k : Bool) (below : List Symbol) → Kept below → Kept (value_place true k ∷ wait.Do act.Value ∷ wait.MoreValues ty (at + 1) ∷ below)
+  unfolding Kept
+  good_next_value ty at k below g = good_value true k _ refl (tt, tt, (tt, tt, g))
 
   good_take : (x : Symbol) (t : Token) (new below : List Symbol) → Ready s lawful limit x → Needs s lawful limit x below → Kept below → take s limit x t ≡ Some new → Kept (new ++ below)
   unfolding Kept
@@ -186,6 +218,16 @@ module _ (s : Scope) (lawful : IsLawful s) (limit : ℕ) where
   good_take (wait.Version i) t new below r n g h = moved below _ new (version_inv s limit i t new h).leaves (tt, tt, g)
   good_take (wait.Type role) t new below r n g h = moved below _ new (type_inv role t new h).1 (tt, tt, g)
   good_take (wait.Do a) t new below r n g h = absurd (do_inv a t new h)
+  good_take wait.Verb t new below r n g h = let b = verb_inv s limit t new h in moved below _ new b.leaves (good_verb b.verb below r b.may n g)
+  good_take wait.New t new below r n g h = let b = new_inv s limit t new h in moved below _ new b.3 (tt, tt, g)
+  good_take wait.From t new below r n g h = let b = from_inv s limit t new h in moved below [] new b.3 g
+  good_take wait.With t new below r n g h = let b = with_inv s limit t new h in moved below _ new b.4 ((r, b.3), n, g)
+  good_take (wait.Part role) t new below r n g h = let b = part_inv s limit role t new h in moved below _ new b.5 (good_part b.1 below g)
+  good_take (wait.Parts used) t new below r n g h = let b = joined_inv s limit used t new h in moved below _ new b.6 (good_joined used b.1 below r.0 n g)
+  good_take (wait.MoreParts used) t new below r n g h = let b = comma_of_parts_inv s limit used t new h in moved below _ new b.2 ((r, b.1), n, g)
+  good_take (wait.Values ty) t new below r n g h = let b = first_value_inv s limit ty t new h in moved below _ new b.1.2 (good_next_value ty 0 b.1.0 below g)
+  good_take (wait.MoreValues ty at) t new below r n g h =
+      ⊎_elim (λ b. moved below _ new b.1.2 (good_next_value ty at b.1.0 below g)) (λ b. moved below [] new b.2 g) (more_values_inv s limit ty at t new h)
 
   pub keeps : (waits : List Symbol) (bs : List Built) (t : Token) (state : State) → Good s lawful limit waits → settle s limit waits bs t ≡ Some state → Good s lawful limit state.waits
   unfolding settle Kept

@@ -2,6 +2,12 @@ pub mod Answered
 pub mod Assigning
 mod ChainSteps
 mod CommandScopeLaws
+mod CommandBuilt
+mod CommandRead
+mod CommandSteps
+pub mod CommandStarts
+mod CommandTakes
+mod CommandUnique
 mod Complete
 mod Completions
 pub mod FirstFaults
@@ -20,6 +26,7 @@ pub mod Settling
 mod SignFacts
 pub mod Starts
 mod Takes
+mod TypesLeft
 mod TokenFronts
 pub mod TokenSteps
 mod Unique

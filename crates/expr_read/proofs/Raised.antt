@@ -87,6 +87,9 @@ module _ (s : Scope) (limit up : ℕ) (above : limit ≤ up) where
   no_open (wait.Comma ∷ below) bs h = refl
   no_open (wait.Do a ∷ below) bs h = no_open below _ h
   no_open (wait.Tail level d ∷ below) bs h = no_open below bs h
+  no_open (wait.Type role ∷ below) bs h = refl
+  no_open (wait.Part role ∷ below) bs h = refl
+  no_open (wait.MoreValues ty at ∷ below) bs h = refl
   no_open (x ∷ below) bs h = absurd (false≢true h)
 
 module _ (s : Scope) (lawful : IsLawful s) (limit up : ℕ) (above : limit ≤ up) where

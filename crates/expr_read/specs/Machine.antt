@@ -1,6 +1,8 @@
 -- A machine that reads tokens one by one: what it waits for is a stack of symbols, and what it has built another.
-use Rattle.std.specs.Prelude.{ℕ, zero, suc, ◌^◌, List, [], ◌∷◌, ◌++◌, Bool, true, false, ◌&&◌, ◌||◌, nat_lt, nat_eq, Option, Some, None, if◌then◌else◌, is_some, pos}
+use Rattle.std.specs.Prelude.{ℕ, zero, suc, ◌+◌, ◌^◌, List, [], ◌∷◌, ◌++◌, Bool, true, false, not, ◌&&◌, ◌||◌, nat_lt, nat_eq, Option, Some, None, if◌then◌else◌, is_some, pos, map, drop, codes}
 use Rattle.ent_types.specs.declared.entity.TypeId.{TypeId}
+use Rattle.ent_types.specs.Types.{same_name}
+use Rattle.ent_types.specs.TypeSets.{with_type}
 use Rattle.expr_tokens.specs.Tokens.{Token, word, number, sign, bad}
 use Rattle.expr_tokens.specs.declared.sign.Sign.{Sign}
 use Rattle.expr_tokens.specs.declared.sign.Sign.TheVariants.{Open, Close, Comma, Dot, Colon, Assign as Becomes}
@@ -21,8 +23,16 @@ use Rattle.expr_read.specs.declared.words.Call.TheVariants as calls
 use Rattle.expr_read.specs.declared.words.FieldUse.{FieldUse}
 use Rattle.expr_read.specs.declared.words.FieldUse.TheVariants.{Number as NumberField, Entity as EntityField, Looked, Assigned}
 use Rattle.expr_read.specs.declared.words.TypeUse.{TypeUse}
-use Rattle.expr_read.specs.declared.words.TypeUse.TheVariants.{Asked, Own}
-use Rattle.expr_read.specs.Fitting.{sign_of, operator_of, associates}
+use Rattle.expr_read.specs.declared.words.TypeUse.TheVariants.{Asked, Own, Added}
+use Rattle.expr_read.specs.declared.words.Verb.{Verb}
+use Rattle.expr_read.specs.declared.words.Verb.TheVariants as verbs
+use Rattle.expr_read.specs.declared.words.Change.TheVariants as changes
+use Rattle.expr_read.specs.declared.words.Turn.TheVariants as turns
+use Rattle.expr_read.specs.declared.tree.ValueExpr.{ValueExpr}
+use Rattle.expr_read.specs.declared.tree.ValueExpr.TheVariants as values
+use Rattle.expr_read.specs.declared.tree.CommandText.TheVariants as commands
+use Rattle.expr_read.specs.Fitting.{sign_of, operator_of, associates, part_use, turn_use}
+use Rattle.expr_read.specs.Meaning.{changed, turned}
 use Rattle.expr_read.specs.Scopes.{Scope}
 
 -- the tails of the levels below a level
@@ -56,17 +66,17 @@ arguments calls.Has d = wait.Ref false ∷ wait.Comma ∷ wait.Type Asked ∷ wa
 arguments calls.Same d = wait.Ref false ∷ wait.Comma ∷ wait.Ref false ∷ wait.Close ∷ wait.Do act.Same ∷ []
 arguments calls.On d = wait.Type Own ∷ wait.Close ∷ wait.Do act.On ∷ []
 
--- a value by the field's kind
-abbrev pub value_place : Bool → Symbol
-value_place true = wait.Ref false
-value_place false = wait.Level 5 0
+-- a value by the field's kind; `made` says whether a made name fits
+abbrev pub value_place : Bool → Bool → Symbol
+value_place made true = wait.Ref made
+value_place made false = wait.Level 5 0
 
 -- what stands behind a field's name
 abbrev pub behind_field : Scope → FieldUse → TypeId → ℕ → List Symbol
 behind_field s NumberField ty i = wait.Do (act.Own ty i) ∷ []
 behind_field s EntityField ty i = wait.Do (act.Ref (refs.Own ty i)) ∷ []
 behind_field s Looked ty i = wait.Do (act.Field ty i) ∷ []
-behind_field s Assigned ty i = wait.Do (act.Field ty i) ∷ wait.Becomes ∷ value_place (s.is_ref ty i) ∷ []
+behind_field s Assigned ty i = wait.Do (act.Field ty i) ∷ wait.Becomes ∷ value_place false (s.is_ref ty i) ∷ []
 
 -- each token in the place of a symbol: the symbols that it leaves, where it may begin what the symbol stands for
 abbrev pub map_some : {A B : Type 0} → (A → B) → Option A → Option B
@@ -111,14 +121,88 @@ take_named limit d ty call g = None
 abbrev pub begins_ref : Option RefExpr → Option TypeId → Option (List Symbol)
 begins_ref plain ty = when (is_some plain || is_some ty) (wait.NamedRef plain ty ∷ [])
 
-abbrev pub take_sign : Symbol → Sign → Option (List Symbol)
-take_sign wait.Close Close = Some []
-take_sign wait.Comma Comma = Some []
-take_sign wait.Dot Dot = Some []
-take_sign wait.Becomes Becomes = Some []
-take_sign (wait.NamedRef plain ty) Dot = map_some (λ t. wait.Field t EntityField ∷ []) ty
-take_sign (wait.Colon index) Colon = Some (wait.Version index ∷ [])
-take_sign symbol g = None
+-- the word that begins a command
+abbrev pub verb_of : List ℕ → Option Verb
+verb_of name =
+    if same_name name (codes "create") then Some verbs.Create
+    else if same_name name (codes "destroy") then Some verbs.Destroy
+    else if same_name name (codes "add") then Some (verbs.Change changes.Add)
+    else if same_name name (codes "set") then Some (verbs.Change changes.Set)
+    else if same_name name (codes "set_shared") then Some (verbs.Change changes.SetShared)
+    else if same_name name (codes "remove") then Some (verbs.Turn turns.Remove)
+    else if same_name name (codes "enable") then Some (verbs.Turn turns.Enable)
+    else if same_name name (codes "disable") then Some (verbs.Turn turns.Disable)
+    else if same_name name (codes "instantiate") then Some verbs.Instantiate
+    else None
+
+-- what stands behind the word of a command
+abbrev pub behind_verb : Verb → List Symbol
+behind_verb verbs.Create = wait.New ∷ wait.Do act.NoParts ∷ wait.With ∷ wait.Do act.Create ∷ []
+behind_verb verbs.Destroy = wait.Ref true ∷ wait.Do act.Destroy ∷ []
+behind_verb (verbs.Change c) = wait.Ref true ∷ wait.Part (part_use c) ∷ wait.Do (act.Change c) ∷ []
+behind_verb (verbs.Turn t) = wait.Ref true ∷ wait.Type (turn_use t) ∷ wait.Do (act.Turn t) ∷ []
+behind_verb verbs.Instantiate = wait.New ∷ wait.From ∷ wait.Ref true ∷ wait.Do act.Instantiate ∷ []
+
+-- whether the command has a type to name, where it names one
+abbrev pub may_begin : Scope → Verb → Bool
+may_begin s verbs.Create = true
+may_begin s verbs.Destroy = true
+may_begin s (verbs.Change c) = s.has_type (part_use c) []
+may_begin s (verbs.Turn t) = s.has_type (turn_use t) []
+may_begin s verbs.Instantiate = true
+
+abbrev pub begins_verb : Scope → Option Verb → Option (List Symbol)
+begins_verb s None = None
+begins_verb s (Some v) = when (may_begin s v) (behind_verb v)
+
+-- the types of a set
+abbrev pub ids : List ℕ → List TypeId
+ids set = map (λ (n : ℕ). record { 0 = n }) set
+
+-- whether the field at a place is a ref field, if there is one
+abbrev pub first_of : List Bool → Option Bool
+first_of [] = None
+first_of (k ∷ ks) = Some k
+
+abbrev pub kind_at : List Bool → ℕ → Option Bool
+kind_at kinds at = first_of (drop at kinds)
+
+-- what stands behind the type of a part
+abbrev pub values_of : TypeId → Option Bool → List Symbol
+values_of ty None = []
+values_of ty (Some k) = wait.Values ty ∷ []
+
+abbrev pub part_places : Scope → TypeId → List Symbol
+part_places s ty = wait.Do (act.Part ty) ∷ values_of ty (kind_at (s.refs ty) 0)
+
+-- the value of a field of a part, and those behind it
+abbrev pub takes_value : TypeId → ℕ → Option Bool → Option (List Symbol)
+takes_value ty at kind = map_some (λ k. value_place true k ∷ wait.Do act.Value ∷ wait.MoreValues ty (at + 1) ∷ []) kind
+
+-- the end of the values of a part
+abbrev pub takes_no_more : Option Bool → Option (List Symbol)
+takes_no_more None = Some []
+takes_no_more (Some k) = None
+
+-- a type for one more part
+abbrev pub type_left : Scope → List ℕ → List ℕ → Option TypeId
+type_left s used name = kept (λ ty. s.allows Added ty && not (s.holds (ids used) ty)) (s.find name)
+
+abbrev pub joined_part : Scope → List ℕ → TypeId → List Symbol
+joined_part s used ty = part_places s ty ++ wait.Do act.Join ∷ wait.MoreParts (with_type used ty.0) ∷ []
+
+abbrev pub take_sign : Scope → Symbol → Sign → Option (List Symbol)
+take_sign s wait.Close Close = Some []
+take_sign s wait.Comma Comma = Some []
+take_sign s wait.Dot Dot = Some []
+take_sign s wait.Becomes Becomes = Some []
+take_sign s (wait.NamedRef plain ty) Dot = map_some (λ t. wait.Field t EntityField ∷ []) ty
+take_sign s (wait.Colon index) Colon = Some (wait.Version index ∷ [])
+take_sign s (wait.Values ty) Open = takes_value ty 0 (kind_at (s.refs ty) 0)
+take_sign s (wait.MoreValues ty at) Comma = takes_value ty at (kind_at (s.refs ty) at)
+take_sign s (wait.MoreValues ty at) Close = takes_no_more (kind_at (s.refs ty) at)
+take_sign s (wait.MoreParts used) Comma = when (s.has_type Added (ids used)) (wait.Parts used ∷ [])
+take_sign s symbol g = None
 
 abbrev pub take_number : Symbol → ℕ → Option (List Symbol)
 take_number (wait.Ref made) n = when (nat_lt n (2 ^ 32)) (wait.Colon n ∷ [])
@@ -131,12 +215,18 @@ take_word s (wait.Field ty role) name = map_some (behind_field s role ty) (s.fie
 take_word s (wait.TypeField role) name = map_some (λ ty. wait.Dot ∷ wait.Field ty role ∷ []) (field_type s role name)
 take_word s (wait.Ref made) name = begins_ref (s.reference made name) (field_type s EntityField name)
 take_word s (wait.Type role) name = map_some (λ ty. wait.Do (act.Type ty) ∷ []) (type_by s role name)
+take_word s wait.Verb name = begins_verb s (verb_of name)
+take_word s wait.New name = when (s.is_new name) (wait.Do (act.New name) ∷ [])
+take_word s wait.From name = when (same_name name (codes "from")) []
+take_word s wait.With name = when (same_name name (codes "with") && s.has_type Added []) (wait.Parts [] ∷ [])
+take_word s (wait.Part role) name = map_some (part_places s) (type_by s role name)
+take_word s (wait.Parts used) name = map_some (joined_part s used) (type_left s used name)
 take_word s symbol name = None
 
 abbrev pub take_other : Scope → ℕ → Symbol → Token → Option (List Symbol)
 take_other s limit (wait.Tail level d) (sign g) = take_operator level d (operator_of g)
 take_other s limit (wait.Named v ty call d) (sign g) = take_named limit d ty call g
-take_other s limit symbol (sign g) = take_sign symbol g
+take_other s limit symbol (sign g) = take_sign s symbol g
 take_other s limit symbol (number n) = take_number symbol n
 take_other s limit symbol (word name) = take_word s symbol name
 take_other s limit symbol bad = None
@@ -151,7 +241,14 @@ may_end (wait.Tail level d) = true
 may_end (wait.Named v ty call d) = is_some v
 may_end (wait.NamedRef plain ty) = is_some plain
 may_end (wait.Do a) = true
+may_end wait.With = true
+may_end (wait.MoreParts used) = true
 may_end symbol = false
+
+-- one more value of the part that was built last
+abbrev pub with_value : ValueExpr → List Built → List Built
+with_value v (built.Part p ∷ bs) = built.Part (record { ty = p.ty; values = p.values ++ v ∷ [] }) ∷ bs
+with_value v bs = []
 
 -- what a step of building makes of what was built before
 abbrev pub apply : Action → List Built → List Built
@@ -168,6 +265,17 @@ apply act.Alive (built.Ref r ∷ bs) = built.Int (exprs.Alive r) ∷ bs
 apply act.Has (built.Type ty ∷ built.Ref r ∷ bs) = built.Int (exprs.Has r ty) ∷ bs
 apply act.Same (built.Ref q ∷ built.Ref r ∷ bs) = built.Int (exprs.Same r q) ∷ bs
 apply act.On (built.Type ty ∷ bs) = built.Int (exprs.On ty) ∷ bs
+apply (act.New name) bs = built.Name name ∷ bs
+apply act.NoParts bs = built.Parts [] ∷ bs
+apply (act.Part ty) bs = built.Part (record { ty = ty; values = [] }) ∷ bs
+apply act.Value (built.Int e ∷ bs) = with_value (values.Int e) bs
+apply act.Value (built.Ref r ∷ bs) = with_value (values.Ref r) bs
+apply act.Join (built.Part p ∷ built.Parts ps ∷ bs) = built.Parts (ps ++ p ∷ []) ∷ bs
+apply act.Create (built.Parts ps ∷ built.Name name ∷ bs) = built.Command (commands.Create name ps) ∷ bs
+apply act.Destroy (built.Ref r ∷ bs) = built.Command (commands.Destroy r) ∷ bs
+apply (act.Change c) (built.Part p ∷ built.Ref r ∷ bs) = built.Command (changed c r p) ∷ bs
+apply (act.Turn t) (built.Type ty ∷ built.Ref r ∷ bs) = built.Command (turned t r ty) ∷ bs
+apply act.Instantiate (built.Ref r ∷ built.Name name ∷ bs) = built.Command (commands.Instantiate name r) ∷ bs
 apply a bs = []
 
 abbrev pub with_variable : Option Variable → List Built → List Built

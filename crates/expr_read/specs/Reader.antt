@@ -8,7 +8,7 @@ use Rattle.expr_read.specs.declared.symbol.Symbol.TheVariants as wait
 use Rattle.expr_read.specs.declared.symbol.Built.{Built}
 use Rattle.expr_read.specs.declared.symbol.Built.TheVariants as built
 use Rattle.expr_read.specs.declared.pending.Pending.{Pending}
-use Rattle.expr_read.specs.declared.pending.Pending.TheVariants.{Nothing, One, Two, Three, Arguments}
+use Rattle.expr_read.specs.declared.pending.Pending.TheVariants.{Nothing, One, Two, Three, Four, Arguments, Behind}
 use Rattle.expr_read.specs.declared.settle.Place.{Place}
 use Rattle.expr_read.specs.declared.build.Ending.{Ending}
 use Rattle.expr_read.specs.declared.build.Ending.TheVariants as endings
@@ -16,11 +16,12 @@ use Rattle.ent_types.specs.declared.entity.TypeId.{TypeId}
 use Rattle.expr_read.specs.declared.tree.Expr.{Expr}
 use Rattle.expr_read.specs.declared.tree.Expr.TheVariants as exprs
 use Rattle.expr_read.specs.declared.tree.RefExpr.{RefExpr}
+use Rattle.expr_read.specs.declared.tree.PartExpr.{PartExpr}
 use Rattle.expr_read.specs.declared.tree.ValueExpr.{ValueExpr}
 use Rattle.expr_read.specs.declared.tree.ValueExpr.TheVariants as values
 use Rattle.expr_read.specs.declared.tree.Assign.{Assign}
 use Rattle.expr_read.specs.declared.tree.Switch.{Switch}
-use Rattle.expr_read.specs.Machine.{State, tails, arguments, apply, ended, settle, finish, steps}
+use Rattle.expr_read.specs.Machine.{State, tails, arguments, behind_verb, apply, ended, settle, finish, steps}
 use Rattle.expr_read.specs.Scopes.{Scope}
 
 -- the symbols in order, the next one first
@@ -29,7 +30,9 @@ pending Nothing = []
 pending (One a) = a ∷ []
 pending (Two a b) = a ∷ b ∷ []
 pending (Three a b c) = a ∷ b ∷ c ∷ []
+pending (Four a b c d) = a ∷ b ∷ c ∷ d ∷ []
 pending (Arguments call depth) = arguments call depth
+pending (Behind verb) = behind_verb verb
 
 -- what stands in the place of a symbol: behind an operand, the levels that the symbol still allows
 abbrev pub pending_at : Symbol → Pending → List Symbol
@@ -64,6 +67,18 @@ top_type bs = None
 abbrev pub top_field : List Built → Option (TypeId × ℕ)
 top_field (built.Field ty i ∷ bs) = Some (ty, i)
 top_field bs = None
+
+abbrev pub top_name : List Built → Option (List ℕ)
+top_name (built.Name name ∷ bs) = Some name
+top_name bs = None
+
+abbrev pub top_part : List Built → Option PartExpr
+top_part (built.Part p ∷ bs) = Some p
+top_part bs = None
+
+abbrev pub top_parts : List Built → Option (List PartExpr)
+top_parts (built.Parts ps ∷ bs) = Some ps
+top_parts bs = None
 
 -- what the first symbols build as they end
 abbrev pub ended_first : ℕ → List Symbol → List Built → List Built

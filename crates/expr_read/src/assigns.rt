@@ -28,6 +28,10 @@ fn the_value(built: Built) -> ValueExpr
         Built::Int(value) => ValueExpr::Int(value),
         Built::Ref(found) => ValueExpr::Ref(found),
         Built::Type(_) => unreachable!(),
+        Built::Name(_) => unreachable!(),
+        Built::Part(_) => unreachable!(),
+        Built::Parts(_) => unreachable!(),
+        Built::Command(_) => unreachable!(),
         Built::Field { .. } => unreachable!(),
     }
 }
@@ -43,6 +47,10 @@ fn the_field(built: Stack<Built>) -> (TypeId, u8)
         Some(Built::Int(_)) => unreachable!(),
         Some(Built::Ref(_)) => unreachable!(),
         Some(Built::Type(_)) => unreachable!(),
+        Some(Built::Name(_)) => unreachable!(),
+        Some(Built::Part(_)) => unreachable!(),
+        Some(Built::Parts(_)) => unreachable!(),
+        Some(Built::Command(_)) => unreachable!(),
         None => unreachable!(),
     }
 }
@@ -57,6 +65,10 @@ fn the_type(built: Stack<Built>) -> TypeId
         Some(Built::Type(ty)) => ty,
         Some(Built::Int(_)) => unreachable!(),
         Some(Built::Ref(_)) => unreachable!(),
+        Some(Built::Name(_)) => unreachable!(),
+        Some(Built::Part(_)) => unreachable!(),
+        Some(Built::Parts(_)) => unreachable!(),
+        Some(Built::Command(_)) => unreachable!(),
         Some(Built::Field { .. }) => unreachable!(),
         None => unreachable!(),
     }
@@ -91,6 +103,10 @@ fn the_switch(built: Stack<Built>) -> Switch
         },
         Some(Built::Ref(_)) => unreachable!(),
         Some(Built::Type(_)) => unreachable!(),
+        Some(Built::Name(_)) => unreachable!(),
+        Some(Built::Part(_)) => unreachable!(),
+        Some(Built::Parts(_)) => unreachable!(),
+        Some(Built::Command(_)) => unreachable!(),
         Some(Built::Field { .. }) => unreachable!(),
         None => unreachable!(),
     }

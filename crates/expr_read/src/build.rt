@@ -1,13 +1,15 @@
 //! What is built where a symbol ends.
-ghost use Rattle.std.specs.Prelude.{◌≡◌, List, [], ◌∷◌, None, is_some, OnOk, MatchOption};
+ghost use Rattle.std.specs.Prelude.{◌≡◌, List, is_some, OnOk};
 ghost use Rattle.expr_read.specs.declared.symbol.Built.{Built};
 ghost use Rattle.expr_read.specs.Machine.{may_end, ended, apply};
-ghost use Rattle.expr_read.specs.Reader.{ended_by, top_int, top_ref, top_type, top_field};
+ghost use Rattle.expr_read.specs.Reader.{ended_by};
 
+use crate::command::{change, create, destroy, instantiate, join, turn, value};
 use crate::stack::Stack;
 use crate::symbol::{Action, Built, Symbol};
-use crate::{BinaryOp, Expr, RefExpr, UnaryOp, Variable};
-use ent_types::{Memory, TypeId};
+use crate::tops::{pop_field, pop_int, pop_ref, pop_type};
+use crate::{BinaryOp, Expr, PartExpr, UnaryOp, Variable};
+use ent_types::{Memory, Sequence};
 use sqlite_items::Boxed;
 use std::alloc::Global;
 
@@ -50,94 +52,15 @@ pub(crate) fn ends_as(symbol: Symbol) -> Option<Ending>
         Symbol::Colon { .. } => None,
         Symbol::Version { .. } => None,
         Symbol::Type(_) => None,
-    }
-}
-
-/// Takes an expression from the top. Where none is there, nothing is left.
-fn pop_int(stack: &mut Stack<Built>) -> Option<Expr>
-    ensures { MatchOption result ((top_int stack.old ≡ None) × (stack.new ≡ [])) (λ e. stack.old ≡ Built.Int e ∷ stack.new) }
-{
-    match stack.pop() {
-        Some(Built::Int(value)) => Some(value),
-        Some(Built::Ref(_)) => {
-            stack.clear();
-            None
-        }
-        Some(Built::Type(_)) => {
-            stack.clear();
-            None
-        }
-        Some(Built::Field { .. }) => {
-            stack.clear();
-            None
-        }
-        None => None,
-    }
-}
-
-/// Takes a reference from the top. Where none is there, nothing is left.
-fn pop_ref(stack: &mut Stack<Built>) -> Option<RefExpr>
-    ensures { MatchOption result ((top_ref stack.old ≡ None) × (stack.new ≡ [])) (λ r. stack.old ≡ Built.Ref r ∷ stack.new) }
-{
-    match stack.pop() {
-        Some(Built::Ref(found)) => Some(found),
-        Some(Built::Int(_)) => {
-            stack.clear();
-            None
-        }
-        Some(Built::Type(_)) => {
-            stack.clear();
-            None
-        }
-        Some(Built::Field { .. }) => {
-            stack.clear();
-            None
-        }
-        None => None,
-    }
-}
-
-/// Takes a type from the top. Where none is there, nothing is left.
-fn pop_type(stack: &mut Stack<Built>) -> Option<TypeId>
-    ensures { MatchOption result ((top_type stack.old ≡ None) × (stack.new ≡ [])) (λ ty. stack.old ≡ Built.Type ty ∷ stack.new) }
-{
-    match stack.pop() {
-        Some(Built::Type(ty)) => Some(ty),
-        Some(Built::Int(_)) => {
-            stack.clear();
-            None
-        }
-        Some(Built::Ref(_)) => {
-            stack.clear();
-            None
-        }
-        Some(Built::Field { .. }) => {
-            stack.clear();
-            None
-        }
-        None => None,
-    }
-}
-
-/// Takes a type and a field of it from the top. Where none is there, nothing is left.
-fn pop_field(stack: &mut Stack<Built>) -> Option<(TypeId, u8)>
-    ensures { MatchOption result ((top_field stack.old ≡ None) × (stack.new ≡ [])) (λ p. stack.old ≡ Built.Field p.0 p.1 ∷ stack.new) }
-{
-    match stack.pop() {
-        Some(Built::Field { ty, field }) => Some((ty, field)),
-        Some(Built::Int(_)) => {
-            stack.clear();
-            None
-        }
-        Some(Built::Ref(_)) => {
-            stack.clear();
-            None
-        }
-        Some(Built::Type(_)) => {
-            stack.clear();
-            None
-        }
-        None => None,
+        Symbol::Verb => None,
+        Symbol::New => None,
+        Symbol::From => None,
+        Symbol::With => Some(Ending::Nothing),
+        Symbol::Part(_) => None,
+        Symbol::Parts(_) => None,
+        Symbol::MoreParts(_) => Some(Ending::Nothing),
+        Symbol::Values(_) => None,
+        Symbol::MoreValues { .. } => None,
     }
 }
 
@@ -269,6 +192,19 @@ fn apply(alloc: Global, action: Action, stack: &mut Stack<Built>) -> Result<(), 
         Action::Has => has(stack),
         Action::Same => same(stack),
         Action::On => on(stack),
+        Action::New(name) => stack.push(Built::Name(name)),
+        Action::NoParts => stack.push(Built::Parts(Sequence::new(alloc))),
+        Action::Part(ty) => stack.push(Built::Part(PartExpr {
+            ty,
+            values: Sequence::new(alloc),
+        })),
+        Action::Value => value(stack),
+        Action::Join => join(stack),
+        Action::Create => create(stack),
+        Action::Destroy => destroy(stack),
+        Action::Change(verb) => change(stack, verb),
+        Action::Turn(verb) => turn(stack, verb),
+        Action::Instantiate => instantiate(stack),
     }
 }
 

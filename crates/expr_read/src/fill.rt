@@ -4,7 +4,6 @@ ghost use Rattle.expr_tokens.specs.Tokens.{sign};
 ghost use Rattle.expr_tokens.specs.Seen.{token_seen};
 ghost use Rattle.expr_read.specs.Machine.{map_some, take, take_other, take_sign, take_number, take_word};
 ghost use Rattle.expr_read.specs.Reader.{pending, pending_at};
-ghost use Rattle.expr_read.specs.Scopes.{Scope};
 
 use crate::begin::{
     after_name, behind_field, field_of, field_type, operand, operator, ref_first, type_by,
@@ -12,6 +11,9 @@ use crate::begin::{
 use crate::names::Names;
 use crate::pending::Pending;
 use crate::symbol::{Action, Symbol};
+use crate::verbs::{
+    comma_of_parts, end_of_values, from, new_name, one_more_part, part, value_at, verb, with,
+};
 use crate::{FieldUse, RefExpr, TypeUse};
 use ent_types::{Entity, TypeId};
 use expr_tokens::{Sign, Token};
@@ -20,8 +22,8 @@ use expr_tokens::{Sign, Token};
 const REF_END: u64 = 1 << 32;
 
 /// A sign in the place of a symbol that is a sign, or that follows part of a reference.
-fn mark(symbol: Symbol, mark: Sign) -> Option<Pending>
-    ensures { map_some pending result ≡ take_sign symbol mark }
+fn mark<N: Names>(names: &N, symbol: Symbol, mark: Sign) -> Option<Pending>
+    ensures { map_some pending result ≡ take_sign (N.scope names.now) symbol mark }
 {
     match symbol {
         Symbol::Close => match mark {
@@ -48,13 +50,26 @@ fn mark(symbol: Symbol, mark: Sign) -> Option<Pending>
             Sign::Colon => Some(Pending::One(Symbol::Version { index })),
             _ => None,
         },
+        Symbol::Values(ty) => match mark {
+            Sign::Open => value_at(names, ty, 0),
+            _ => None,
+        },
+        Symbol::MoreValues { ty, at } => match mark {
+            Sign::Comma => value_at(names, ty, at),
+            Sign::Close => end_of_values(names, ty, at),
+            _ => None,
+        },
+        Symbol::MoreParts(used) => match mark {
+            Sign::Comma => comma_of_parts(names, used),
+            _ => None,
+        },
         _ => None,
     }
 }
 
 /// A sign.
-fn fill_sign(limit: u8, symbol: Symbol, found: Sign) -> Option<Pending>
-    ensures { (s : Scope) → map_some pending result ≡ take_other s limit symbol (sign found) }
+fn fill_sign<N: Names>(names: &N, limit: u8, symbol: Symbol, found: Sign) -> Option<Pending>
+    ensures { map_some pending result ≡ take_other (N.scope names.now) limit symbol (sign found) }
 {
     match symbol {
         Symbol::Tail { level, depth } => operator(level, depth, found),
@@ -64,7 +79,7 @@ fn fill_sign(limit: u8, symbol: Symbol, found: Sign) -> Option<Pending>
             depth,
             ..
         } => after_name(limit, depth, ty, call, found),
-        _ => mark(symbol, found),
+        _ => mark(names, symbol, found),
     }
 }
 
@@ -135,6 +150,12 @@ fn fill_word<N: Names>(names: &N, symbol: Symbol, name: &[u8]) -> Option<Pending
             field_type(names, FieldUse::Entity, name),
         ),
         Symbol::Type(role) => alone(names, role, name),
+        Symbol::Verb => verb(names, name),
+        Symbol::New => new_name(names, name),
+        Symbol::From => from(name),
+        Symbol::With => with(names, name),
+        Symbol::Part(role) => part(names, role, name),
+        Symbol::Parts(used) => one_more_part(names, used, name),
         _ => None,
     }
 }
@@ -146,7 +167,7 @@ fn fill_other<N: Names>(names: &N, limit: u8, symbol: Symbol, token: Token<'_>) 
     match token {
         Token::Word(name) => fill_word(names, symbol, name),
         Token::Number(n) => fill_number(symbol, n),
-        Token::Sign(found) => fill_sign(limit, symbol, found),
+        Token::Sign(found) => fill_sign(names, limit, symbol, found),
         Token::Bad => None,
     }
 }

@@ -5,14 +5,15 @@ ghost use Rattle.expr_read.specs.declared.fault.ExprCause.{ExprCause};
 ghost use Rattle.expr_read.specs.declared.symbol.Symbol.TheVariants as wait;
 ghost use Rattle.expr_read.specs.declared.symbol.Built.{Built};
 ghost use Rattle.expr_read.specs.declared.symbol.Built.TheVariants as built;
-ghost use Rattle.expr_read.specs.Fitting.{FitsExpr, FitsRef};
-ghost use Rattle.expr_read.specs.Grammar.{Syntax, expr, Ref, spell, spell_ref};
+ghost use Rattle.expr_read.specs.CommandScopes.{ServesCommands};
+ghost use Rattle.expr_read.specs.Fitting.{FitsExpr, FitsRef, FitsCommand};
+ghost use Rattle.expr_read.specs.Grammar.{Syntax, expr, Ref, Command, spell, spell_ref, spell_command};
 ghost use Rattle.expr_read.specs.Faults.{CanGoOn, IsFirstFault};
-ghost use Rattle.expr_read.specs.Languages.{exprs, refs, assigns, switches};
+ghost use Rattle.expr_read.specs.Languages.{exprs, refs, assigns, switches, commands};
 ghost use Rattle.expr_read.specs.declared.words.FieldUse.TheVariants.{Assigned};
 ghost use Rattle.expr_read.specs.declared.words.TypeUse.TheVariants.{Switched};
 ghost use Rattle.expr_read.specs.Machine.{State, run, steps};
-ghost use Rattle.expr_read.specs.Meaning.{meaning, meaning_ref};
+ghost use Rattle.expr_read.specs.Meaning.{meaning, meaning_ref, meaning_command};
 ghost use Rattle.expr_read.specs.Reader.{Stops};
 ghost use Rattle.expr_read.specs.Scopes.{Scope, IsLawful};
 
@@ -32,6 +33,18 @@ pub fn machine_reads_the_grammar()
         run s limit (wait.Ref made ∷ []) [] (spell_ref r []) ≡ Some (built.Ref (meaning_ref r) ∷ []) }
     ensures reads_refs { (s : Scope) → IsLawful s → (limit : ℕ) (made : Bool) (ts : List Token) (ws : List Built) → run s limit (wait.Ref made ∷ []) [] ts ≡ Some ws →
         ((r : Ref) × FitsRef s made r × (spell_ref r [] ≡ ts) × (ws ≡ built.Ref (meaning_ref r) ∷ [])) }
+{}
+
+/// The machine builds what the one derivation of a command means, and takes no tokens without a derivation. Where it stops
+/// there is the first fault.
+pub fn machine_reads_commands()
+    ensures builds { (s : Scope) → IsLawful s → ServesCommands s → (limit : ℕ) (c : Command) → FitsCommand s limit c →
+        run s limit (wait.Verb ∷ []) [] (spell_command c) ≡ Some (built.Command (meaning_command c) ∷ []) }
+    ensures reads { (s : Scope) → IsLawful s → ServesCommands s → (limit : ℕ) (ts : List Token) (ws : List Built) → run s limit (wait.Verb ∷ []) [] ts ≡ Some ws →
+        ((c : Command) × FitsCommand s limit c × (spell_command c ≡ ts)) }
+    ensures one { (s : Scope) → IsLawful s → ServesCommands s → (limit : ℕ) (x y : Command) → FitsCommand s limit x → FitsCommand s limit y → spell_command x ≡ spell_command y → x ≡ y }
+    ensures faults { (s : Scope) → IsLawful s → ServesCommands s → (limit : ℕ) (tokens : List Placed) (end : ℕ) (cause : ExprCause) (at : ℕ) →
+        Stops s limit (wait.Verb ∷ []) tokens end cause at → IsFirstFault (commands s) limit tokens end cause at }
 {}
 
 /// The machine takes some tokens exactly where a text of the grammar begins with them. So it stops at the first token

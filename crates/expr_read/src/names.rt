@@ -1,9 +1,10 @@
 //! What the names of a text stand for, where it stands.
-ghost use Rattle.std.specs.Prelude.{◌≡◌};
+ghost use Rattle.std.specs.Prelude.{◌≡◌, ◌<◌, IfSome};
+ghost use Rattle.expr_read.specs.Machine.{when, ids, kind_at, type_left};
 ghost use Rattle.expr_read.specs.Scopes.{Scope};
 
 use crate::{Call, FieldUse, RefExpr, TypeUse, Variable};
-use ent_types::TypeId;
+use ent_types::{Name, TypeId, TypeSet};
 
 /// What the names of a text stand for. Its meaning is a scope of the definitions.
 pub(crate) trait Names {
@@ -41,4 +42,22 @@ pub(crate) trait Names {
     /// Says whether the type's field at this place is a ref field.
     fn is_ref(&self, ty: TypeId, field: u8) -> bool
         ensures { result ≡ (scope self.now).is_ref ty field };
+
+    /// The name, where a command may make it.
+    fn new_name(&self, name: &[u8]) -> Option<Name>
+        ensures { result ≡ when ((scope self.now).is_new name.now) name.now };
+
+    /// Says whether some type that isn't in the set may be named so.
+    fn has_type(&self, role: TypeUse, used: TypeSet) -> bool
+        ensures { result ≡ (scope self.now).has_type role (ids used) };
+
+    /// The type of this name, where a part of `create` may name it and it isn't in the set.
+    fn type_left(&self, used: TypeSet, name: &[u8]) -> Option<TypeId>
+        ensures value { result ≡ type_left (scope self.now) used name.now }
+        ensures within { IfSome result (λ ty. ty.0 < 256) };
+
+    /// Whether the type's field at this place is a ref field, where there is one.
+    fn kind_at(&self, ty: TypeId, at: u8) -> Option<bool>
+        ensures value { result ≡ kind_at ((scope self.now).refs ty) at }
+        ensures within { IfSome result (λ kind. at < 64) };
 }

@@ -1,11 +1,12 @@
 //! The symbols that a token leaves.
 ghost use Rattle.std.specs.Prelude.{◌≡◌, ◌∷◌, ◌++◌, false, OnOk};
-ghost use Rattle.expr_read.specs.Machine.{tails, arguments};
+ghost use Rattle.expr_read.specs.Machine.{tails, arguments, behind_verb};
+ghost use Rattle.expr_read.specs.Fitting.{part_use, turn_use};
 ghost use Rattle.expr_read.specs.Reader.{pending, pending_at, allowed};
 
 use crate::stack::Stack;
 use crate::symbol::{Action, Symbol};
-use crate::{Call, FieldUse, TypeUse};
+use crate::{Call, Change, FieldUse, Turn, TypeUse, Verb};
 use ent_types::Memory;
 
 /// The level of a whole expression: operators of all levels.
@@ -22,8 +23,12 @@ pub(crate) enum Pending {
     Two(Symbol, Symbol),
     /// Three.
     Three(Symbol, Symbol, Symbol),
+    /// Four.
+    Four(Symbol, Symbol, Symbol, Symbol),
     /// The arguments of a call, at a depth.
     Arguments { call: Call, depth: u8 },
+    /// What stands behind the word of a command.
+    Behind(Verb),
 }
 
 /// Waits for three symbols.
@@ -49,24 +54,35 @@ fn push_after_ref(waits: &mut Stack<Symbol>, second: Symbol, action: Action) -> 
     push_three(waits, Symbol::Ref { made: false }, Symbol::Comma, second)
 }
 
+/// A whole expression at a depth.
+fn whole(depth: u8) -> Symbol
+    ensures { result ≡ Symbol.Level 5 depth }
+{
+    Symbol::Level {
+        level: WHOLE,
+        depth,
+    }
+}
+
 /// Waits for the arguments of a call.
 fn push_arguments(waits: &mut Stack<Symbol>, call: Call, depth: u8) -> Result<(), Memory>
     ensures { OnOk result (waits.new ≡ arguments call depth ++ waits.old) }
 {
-    let whole = Symbol::Level {
-        level: WHOLE,
-        depth,
-    };
     match call {
         Call::Two(op) => {
             waits.push(Symbol::Do(Action::Binary(op)))?;
             waits.push(Symbol::Close)?;
-            push_three(waits, whole, Symbol::Comma, whole)
+            push_three(waits, whole(depth), Symbol::Comma, whole(depth))
         }
         Call::Pick => {
-            push_three(waits, whole, Symbol::Close, Symbol::Do(Action::Pick))?;
+            push_three(
+                waits,
+                whole(depth),
+                Symbol::Close,
+                Symbol::Do(Action::Pick),
+            )?;
             waits.push(Symbol::Comma)?;
-            push_three(waits, whole, Symbol::Comma, whole)
+            push_three(waits, whole(depth), Symbol::Comma, whole(depth))
         }
         Call::Get => push_after_ref(waits, Symbol::TypeField(FieldUse::Looked), Action::Get),
         Call::Alive => push_three(
@@ -83,6 +99,65 @@ fn push_arguments(waits: &mut Stack<Symbol>, call: Call, depth: u8) -> Result<()
             Symbol::Close,
             Symbol::Do(Action::On),
         ),
+    }
+}
+
+/// Where a part of the command names a type.
+pub(crate) fn part_use(change: Change) -> TypeUse
+    ensures { result ≡ part_use change }
+{
+    match change {
+        Change::Add => TypeUse::Added,
+        Change::Set => TypeUse::Set,
+        Change::SetShared => TypeUse::Shared,
+    }
+}
+
+/// Where the command names a type.
+pub(crate) fn turn_use(turn: Turn) -> TypeUse
+    ensures { result ≡ turn_use turn }
+{
+    match turn {
+        Turn::Remove => TypeUse::Removed,
+        Turn::Enable | Turn::Disable => TypeUse::Enabled,
+    }
+}
+
+/// Waits for what stands behind the word of a command.
+fn push_behind(waits: &mut Stack<Symbol>, verb: Verb) -> Result<(), Memory>
+    ensures { OnOk result (waits.new ≡ behind_verb verb ++ waits.old) }
+{
+    let named = Symbol::Ref { made: true };
+    match verb {
+        Verb::Create => {
+            waits.push(Symbol::Do(Action::Create))?;
+            push_three(
+                waits,
+                Symbol::New,
+                Symbol::Do(Action::NoParts),
+                Symbol::With,
+            )
+        }
+        Verb::Destroy => {
+            waits.push(Symbol::Do(Action::Destroy))?;
+            waits.push(named)
+        }
+        Verb::Change(change) => push_three(
+            waits,
+            named,
+            Symbol::Part(part_use(change)),
+            Symbol::Do(Action::Change(change)),
+        ),
+        Verb::Turn(turn) => push_three(
+            waits,
+            named,
+            Symbol::Type(turn_use(turn)),
+            Symbol::Do(Action::Turn(turn)),
+        ),
+        Verb::Instantiate => {
+            waits.push(Symbol::Do(Action::Instantiate))?;
+            push_three(waits, Symbol::New, Symbol::From, named)
+        }
     }
 }
 
@@ -110,7 +185,12 @@ fn push_symbols(waits: &mut Stack<Symbol>, symbols: Pending) -> Result<(), Memor
             waits.push(first)
         }
         Pending::Three(first, second, third) => push_three(waits, first, second, third),
+        Pending::Four(first, second, third, fourth) => {
+            waits.push(fourth)?;
+            push_three(waits, first, second, third)
+        }
         Pending::Arguments { call, depth } => push_arguments(waits, call, depth),
+        Pending::Behind(verb) => push_behind(waits, verb),
     }
 }
 

@@ -1,11 +1,12 @@
 //! The readers of texts where they stand.
-ghost use Rattle.expr_read.specs.Languages.{assigns, exprs, refs, switches};
+ghost use Rattle.expr_read.specs.Languages.{assigns, commands, exprs, refs, switches};
 ghost use Rattle.expr_read.specs.Readings.{ReadsText};
 ghost use Rattle.expr_read.specs.ScopeOf.{scope_of};
 
 use crate::assigns::{read_assign_by, read_switch_by};
+use crate::commands::read_command_by;
 use crate::texts::{read_expr_by, read_ref_by};
-use crate::{Assign, Expr, ExprFault, RefExpr, Scope, Switch};
+use crate::{Assign, CommandText, Expr, ExprFault, RefExpr, Scope, Switch};
 use std::alloc::Global;
 
 /// The expression that a text is where it stands, or its first fault.
@@ -44,6 +45,16 @@ pub fn read_switch(alloc: Global, text: &str, scope: &Scope) -> Result<Switch, E
 {
     scope.law();
     read_switch_by(alloc, text, scope)
+}
+
+/// The command that a text is where it stands, or its first fault, as `read_expr` tells it. A made name fits where a
+/// reference stands by itself, as what is destroyed or as the value of a ref field.
+pub fn read_command(alloc: Global, text: &str, scope: &Scope) -> Result<CommandText, ExprFault>
+    ensures { ReadsText (commands (scope_of scope.now.registry.now scope.now.place scope.now.bound.now scope.now.made.now)) text.now result }
+{
+    scope.law();
+    scope.command_law();
+    read_command_by(alloc, text, scope)
 }
 
 #[cfg(test)]

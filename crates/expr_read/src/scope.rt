@@ -1,5 +1,5 @@
 //! What the names of a text stand for, by the place of the text.
-ghost use Rattle.std.specs.Prelude.{◌≡◌, ◌<◌, ◌≤◌, length, IfSome, if◌then◌else◌, Some, None};
+ghost use Rattle.std.specs.Prelude.{◌≡◌, ◌<◌, ◌≤◌, ◌&&◌, not, length, IfSome, if◌then◌else◌, Some, None};
 ghost use Rattle.std.specs.Option.{option_copied};
 ghost use Rattle.ent_types.specs.Registries.{type_at};
 ghost use Rattle.expr_read.specs.ScopeOf.{is_system, is_known, is_own, may_name, is_open, may_stand, scope_of};
@@ -8,12 +8,14 @@ ghost use Rattle.expr_read.specs.Scopes.{IsLawful};
 
 mod by_kind;
 mod by_word;
+mod left;
 
 use crate::names::Names;
 use crate::places::type_of;
 use crate::{Call, FieldUse, RefExpr, TypeUse, Variable};
 use by_kind::{has_suited, is_ref_kind, is_shared, kind_of_field, suited_field};
 use by_word::{is, own_reference, plain_call, system_call, system_variable};
+use left::{is_left, is_taken, kind_at};
 use ent_types::{Kind, Name, Registry, TypeId, TypeInfo, TypeSet};
 
 /// The number of the built-in type `SceneTag`.
@@ -201,6 +203,34 @@ impl Names for Scope<'_> {
 
     fn allows(&self, role: TypeUse, ty: TypeId) -> bool {
         self.is_known(ty) && self.may_stand(role, ty, self.registry.info(ty))
+    }
+
+    fn new_name(&self, name: &[u8]) -> Option<Name> {
+        if is_taken(self.made, name) {
+            return None;
+        }
+        Name::of(name)
+    }
+
+    fn has_type(&self, role: TypeUse, used: TypeSet) -> bool {
+        self.has_left(role, used)
+    }
+
+    fn type_left(&self, used: TypeSet, name: &[u8]) -> Option<TypeId> {
+        let at = type_of(name, self.registry)?;
+        let ty = TypeId(at as u16);
+        if self.allows(TypeUse::Added, ty) && is_left(used, ty) {
+            Some(ty)
+        } else {
+            None
+        }
+    }
+
+    fn kind_at(&self, ty: TypeId, at: u8) -> Option<bool> {
+        if !self.is_known(ty) {
+            return None;
+        }
+        kind_at(self.registry.info(ty), usize::from(at))
     }
 
     fn is_ref(&self, ty: TypeId, field: u8) -> bool {

@@ -36,9 +36,9 @@ pub(crate) fn find<N: Names>(
     ensures { (bs : List Built) → settle (N.scope names.now) limit waits.now bs (token_seen token.entry) ≡ placed result waits.now bs }
 {
     for above in 0..waits.len() {
-        let symbol = waits.at(above);
-        match fill(names, limit, symbol, token) {
+        match fill(names, limit, waits.at(above), token) {
             Some(left) => {
+                let symbol = waits.at(above);
                 return Some(Place {
                     above,
                     symbol,
@@ -46,7 +46,7 @@ pub(crate) fn find<N: Names>(
                 });
             }
             None => {
-                if ends_as(symbol).is_none() {
+                if ends_as(waits.at(above)).is_none() {
                     return None;
                 }
             }

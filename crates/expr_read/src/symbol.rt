@@ -1,6 +1,9 @@
 //! What a reader still waits for, and what it has built.
-use crate::{BinaryOp, Call, Expr, FieldUse, RefExpr, TypeUse, UnaryOp, Variable};
-use ent_types::TypeId;
+use crate::{
+    BinaryOp, Call, Change, CommandText, Expr, FieldUse, PartExpr, RefExpr, Turn, TypeUse, UnaryOp,
+    Variable,
+};
+use ent_types::{Name, Sequence, TypeId, TypeSet};
 
 /// A place of the grammar that the tokens to come have to fill.
 #[derive(Clone, Copy, Debug)]
@@ -56,6 +59,27 @@ pub(crate) enum Symbol {
     },
     /// A type.
     Type(TypeUse),
+    /// The word that begins a command.
+    Verb,
+    /// A name to be made.
+    New,
+    /// `from`
+    From,
+    /// Perhaps `with` and parts.
+    With,
+    /// A part.
+    Part(TypeUse),
+    /// Parts of other types than those in the set.
+    Parts(TypeSet),
+    /// Perhaps a comma and such parts.
+    MoreParts(TypeSet),
+    /// The values of a part of this type, in parentheses.
+    Values(TypeId),
+    /// The values of the fields from this place on, each behind a comma, and `)`.
+    MoreValues {
+        ty: TypeId,
+        at: u8,
+    },
     /// Nothing: a step of building.
     Do(Action),
 }
@@ -89,6 +113,26 @@ pub(crate) enum Action {
     Same,
     /// `on` over a type.
     On,
+    /// A name to be made.
+    New(Name),
+    /// No parts so far.
+    NoParts,
+    /// A part of this type, without values so far.
+    Part(TypeId),
+    /// The last value as one more of the part before it.
+    Value,
+    /// The last part as one more of the parts before it.
+    Join,
+    /// `create` over a name and parts.
+    Create,
+    /// `destroy` over a reference.
+    Destroy,
+    /// A command over a reference and a part.
+    Change(Change),
+    /// A command over a reference and a type.
+    Turn(Turn),
+    /// `instantiate` over a name and a reference.
+    Instantiate,
 }
 
 /// Something built.
@@ -102,4 +146,12 @@ pub(crate) enum Built {
     Type(TypeId),
     /// A type with a field.
     Field { ty: TypeId, field: u8 },
+    /// A name to be made.
+    Name(Name),
+    /// A part.
+    Part(PartExpr),
+    /// Parts of `create`.
+    Parts(Sequence<PartExpr>),
+    /// A command.
+    Command(CommandText),
 }

@@ -6,7 +6,7 @@ use crate::pending::WHOLE;
 use crate::symbol::Symbol;
 use crate::texts::read_from;
 use crate::{BinaryOp, Call, FieldUse, RefExpr, TypeUse, Variable};
-use ent_types::TypeId;
+use ent_types::{Name, TypeId, TypeSet};
 use std::alloc::Global;
 use std::test::Fail;
 
@@ -61,6 +61,22 @@ impl Names for Lengths {
 
     fn is_ref(&self, _ty: TypeId, _field: u8) -> bool {
         false
+    }
+
+    fn new_name(&self, _name: &[u8]) -> Option<Name> {
+        None
+    }
+
+    fn has_type(&self, _role: TypeUse, _used: TypeSet) -> bool {
+        false
+    }
+
+    fn type_left(&self, _used: TypeSet, _name: &[u8]) -> Option<TypeId> {
+        None
+    }
+
+    fn kind_at(&self, _ty: TypeId, _at: u8) -> Option<bool> {
+        None
     }
 }
 

@@ -40,6 +40,10 @@ fn the_int(built: Stack<Built>) -> Expr
         Some(Built::Int(value)) => value,
         Some(Built::Ref(_)) => unreachable!(),
         Some(Built::Type(_)) => unreachable!(),
+        Some(Built::Name(_)) => unreachable!(),
+        Some(Built::Part(_)) => unreachable!(),
+        Some(Built::Parts(_)) => unreachable!(),
+        Some(Built::Command(_)) => unreachable!(),
         Some(Built::Field { .. }) => unreachable!(),
         None => unreachable!(),
     }
@@ -55,6 +59,10 @@ fn the_ref(built: Stack<Built>) -> RefExpr
         Some(Built::Ref(found)) => found,
         Some(Built::Int(_)) => unreachable!(),
         Some(Built::Type(_)) => unreachable!(),
+        Some(Built::Name(_)) => unreachable!(),
+        Some(Built::Part(_)) => unreachable!(),
+        Some(Built::Parts(_)) => unreachable!(),
+        Some(Built::Command(_)) => unreachable!(),
         Some(Built::Field { .. }) => unreachable!(),
         None => unreachable!(),
     }

@@ -102,3 +102,61 @@ fn the_first_fault_is_told(rt: HostRuntime) -> Result<(), Fail> {
     assert_eq!(rt; switch.err(), Some(fault(ExprCause::BadChar, 7)));
     Ok(())
 }
+
+#[test]
+fn commands_are_read_where_they_stand(rt: HostRuntime) -> Result<(), Fail> {
+    let alloc = rt.alloc();
+    let registry = registry(alloc)?;
+    let bound = TypeSet::empty().with(BODY);
+    let scope = Scope {
+        registry: &registry,
+        place: TextPlace::System,
+        bound: &bound,
+        made: &[],
+    };
+    let texts = [
+        "create a",
+        "create a with Body(1 + 2, self), Disabled",
+        "destroy self",
+        "add self Body(row, Body.to)",
+        "set self Body(1, null)",
+        "remove self Body",
+        "enable self Body",
+        "disable Body.to Body",
+        "instantiate a from 1:2",
+    ];
+    for text in texts {
+        assert!(rt; read_command(alloc, text, &scope).is_ok());
+    }
+    Ok(())
+}
+
+#[test]
+fn the_first_fault_of_a_command_is_told(rt: HostRuntime) -> Result<(), Fail> {
+    let alloc = rt.alloc();
+    let registry = registry(alloc)?;
+    let bound = TypeSet::empty().with(BODY);
+    let scope = Scope {
+        registry: &registry,
+        place: TextPlace::System,
+        bound: &bound,
+        made: &[],
+    };
+    let texts = [
+        ("create null", ExprCause::UnknownName, 7),
+        ("create a with Body", ExprCause::Unexpected, 18),
+        ("create a with Prefab, Prefab", ExprCause::UnknownName, 22),
+        ("destroy a", ExprCause::UnknownName, 8),
+        ("add self Body(self, 1)", ExprCause::UnknownName, 14),
+        ("set self Disabled", ExprCause::UnknownName, 9),
+        ("set_shared self SceneTag(1)", ExprCause::UnknownName, 0),
+        ("remove self SceneTag", ExprCause::UnknownName, 12),
+        ("enable self Disabled", ExprCause::UnknownName, 12),
+        ("disable self", ExprCause::Unexpected, 12),
+        ("instantiate a self", ExprCause::UnknownName, 14),
+    ];
+    for (text, cause, at) in texts {
+        assert_eq!(rt; read_command(alloc, text, &scope).err(), Some(fault(cause, at)));
+    }
+    Ok(())
+}
