@@ -118,10 +118,7 @@ fn switch_start(alloc: Global) -> Result<Stack<Symbol>, Memory>
 {
     let mut waits = Stack::new(alloc);
     let begun = Symbol::Type(TypeUse::Switched);
-    push_symbols(
-        &mut waits,
-        Pending::Three(begun, Symbol::Becomes, whole(0)),
-    )?;
+    push_symbols(&mut waits, Pending::Three(begun, Symbol::Becomes, whole(0)))?;
     Ok(waits)
 }
 

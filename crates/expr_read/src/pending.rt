@@ -141,7 +141,7 @@ fn push_tails(waits: &mut Stack<Symbol>, level: u8, depth: u8) -> Result<(), Mem
     let mut left = level;
     while left > 0 {
         left -= 1;
-        waits.push_copy(&Symbol::Tail { level: left, depth })?;
+        push_symbols(waits, Pending::One(Symbol::Tail { level: left, depth }))?;
     }
     Ok(())
 }

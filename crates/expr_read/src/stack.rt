@@ -102,14 +102,6 @@ impl<T: Drop> Stack<T> {
 }
 
 impl<T: Copy> Stack<T> {
-    /// Puts a copy of an element on top.
-    pub(crate) fn push_copy(&mut self, item: &T) -> Result<(), Memory>
-        ensures { OnOk result (self.new ≡ item.now ∷ self.old) }
-    {
-        self.items.push(*item)?;
-        Ok(())
-    }
-
     /// The element at a place from 0, counted from the top.
     pub(crate) fn at(&self, depth: usize) -> T
         requires { depth < length self.now }
