@@ -1,5 +1,5 @@
 -- The tokens that the function gives are those of the text.
-use Rattle.std.proofs.Common.{ℕ, zero, suc, ◌≡◌, ◌<◌, ◌+◌, List, [], ◌∷◌, Bool, true, false, cond, eqb, length, get_or, take, drop, Option, Some, None, refl, sym, subst, arith}
+use Rattle.std.proofs.Common.{ℕ, zero, suc, ◌≡◌, ◌<◌, ◌+◌, List, [], ◌∷◌, Bool, true, false, cond, eqb, get_or, drop, Option, Some, None, refl, sym, subst, arith}
 use Rattle.std.specs.List.{prefix_len}
 use Rattle.std.specs.Char.{is_ascii_digit}
 use Rattle.std.proofs.lemmas.Bool.{false≢true, eqb-true, eq-eqb}
