@@ -193,16 +193,18 @@ module _ (s : Scope) (limit : ℕ) where
   part_from : (role : TypeUse) (name : List ℕ) (ty : TypeId) (below : TypeId → List Symbol) (bs : List Built) (ts : List Token) (ws : List Built) → s.find name ≡ Some ty → s.allows role ty ≡ true
       → run s limit (part_places s ty ++ below ty) bs ts ≡ Some ws → (p : ReadPart role below (word name ∷ ts) ws) × (p.part.ty ≡ ty)
   part_from role name ty below bs ts ws known may h =
-      let v = read_values ty (kind_at (s.refs ty) 0) (below ty) _ ts ws refl (sym (run_do s limit (act.Part ty) (values_of ty (kind_at (s.refs ty) 0) ++ below ty) bs ts) ∙ h) in
-      (record {
-        part = record { name = name; ty = ty; values = v.values };
-        fits = ((known, may), v.fits);
-        rest = v.rest;
-        tokens = ap (λ x. word name ∷ x) v.tokens;
-        shorter = omega (arith, v.shorter);
-        built = v.built;
-        goes_on = v.goes_on;
-      }, refl)
+      let v = read_values ty (kind_at (s.refs ty) 0) (below ty) _ ts ws refl (sym (run_do s limit (act.Part ty) (values_of ty (kind_at (s.refs ty) 0) ++ below ty) bs ts) ∙ h) in (
+        record {
+          part = record { name = name; ty = ty; values = v.values };
+          fits = ((known, may), v.fits);
+          rest = v.rest;
+          tokens = ap (λ x. word name ∷ x) v.tokens;
+          shorter = omega (arith, v.shorter);
+          built = v.built;
+          goes_on = v.goes_on;
+        },
+        refl,
+      )
 
   moved_part : (role : TypeUse) (below : TypeId → List Symbol) (ts us : List Token) (ws : List Built) → ts ≡ us → ReadPart role below us ws → ReadPart role below ts ws
   moved_part role below ts us ws e p = subst (λ k. ReadPart role below k ws) (sym e) p

@@ -333,9 +333,11 @@ module _ (s : Scope) (lawful : IsLawful s) (limit : ℕ) where
       record {
         us = word t.0 ∷ b.us;
         stop_there = λ h. absurd (false≢true h);
-        builds = λ bs. let w = b.builds bs in
-        (w.0, run_take s limit (wait.Parts used) below bs (word t.0) b.us _ (take_joined s limit used t.0 t.1 t.2 t.3 t.4)
-        ∙ ap (λ l. run s limit l bs b.us) (joined_append s used t.1 below) ∙ w.1);
+        builds = λ bs. let w = b.builds bs in (
+          w.0,
+          run_take s limit (wait.Parts used) below bs (word t.0) b.us _ (take_joined s limit used t.0 t.1 t.2 t.3 t.4)
+              ∙ ap (λ l. run s limit l bs b.us) (joined_append s used t.1 below) ∙ w.1,
+        );
       }
 
   at_new : (below : List Symbol) → ServesCommands s → Completion below → Completion (wait.New ∷ below)

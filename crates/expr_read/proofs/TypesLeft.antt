@@ -22,10 +22,10 @@ module _ (passes : TypeId → Bool) (types : List TypeInfo) where
   at_place k within = ap (λ ts. some_type_from passes k ts) (drop_more types k (plain_tag []) within)
 
   pub found_at : (k : ℕ) → k < length types → passes (record { 0 = k }) ≡ true → LeftFrom k → some_type_from passes 0 types ≡ true
-  found_at k within yes h = h ∙ at_place k within ∙ ap (λ b. b || some_type_from passes (k + 1) (drop (k + 1) types)) yes
+  found_at k within passing h = h ∙ at_place k within ∙ ap (λ b. b || some_type_from passes (k + 1) (drop (k + 1) types)) passing
 
   pub passed_by : (k : ℕ) → k < length types → passes (record { 0 = k }) ≡ false → LeftFrom k → LeftFrom (k + 1)
-  passed_by k within no h = h ∙ at_place k within ∙ ap (λ b. b || some_type_from passes (k + 1) (drop (k + 1) types)) no
+  passed_by k within failing h = h ∙ at_place k within ∙ ap (λ b. b || some_type_from passes (k + 1) (drop (k + 1) types)) failing
 
   pub none_found : (k : ℕ) → length types ≤ k → LeftFrom k → some_type_from passes 0 types ≡ false
   none_found k past h = h ∙ ap (λ ts. some_type_from passes k ts) (drop_all k types past)

@@ -8,7 +8,7 @@ use Rattle.expr_read.specs.declared.symbol.Symbol.TheVariants as wait
 use Rattle.expr_read.specs.declared.symbol.Built.{Built}
 use Rattle.expr_read.specs.declared.symbol.Built.TheVariants as built
 use Rattle.expr_read.specs.declared.pending.Pending.{Pending}
-use Rattle.expr_read.specs.declared.pending.Pending.TheVariants.{Nothing, One, Two, Three, Four, Arguments, Behind}
+use Rattle.expr_read.specs.declared.pending.Pending.TheVariants.{Nothing, Build, One, Two, Three, Four, Arguments, Behind}
 use Rattle.expr_read.specs.declared.settle.Place.{Place}
 use Rattle.expr_read.specs.declared.build.Ending.{Ending}
 use Rattle.expr_read.specs.declared.build.Ending.TheVariants as endings
@@ -27,6 +27,7 @@ use Rattle.expr_read.specs.Scopes.{Scope}
 -- the symbols in order, the next one first
 abbrev pub pending : Pending → List Symbol
 pending Nothing = []
+pending (Build a) = wait.Do a ∷ []
 pending (One a) = a ∷ []
 pending (Two a b) = a ∷ b ∷ []
 pending (Three a b c) = a ∷ b ∷ c ∷ []

@@ -10,7 +10,7 @@ ghost use Rattle.expr_read.specs.Readings.{Reads, Refuses, ReadsText};
 ghost use Rattle.expr_read.specs.Scopes.{IsLawful};
 
 use crate::names::Names;
-use crate::pending::WHOLE;
+use crate::pending::{Pending, push_symbols, whole};
 use crate::read::{out_of_memory, read_text};
 use crate::stack::Stack;
 use crate::symbol::{Built, Symbol};
@@ -117,12 +117,8 @@ fn switch_start(alloc: Global) -> Result<Stack<Symbol>, Memory>
     ensures { IfOk result (λ waits. waits ≡ Symbol.Type TypeUse.Switched ∷ Symbol.Becomes ∷ Symbol.Level 5 0 ∷ []) }
 {
     let mut waits = Stack::new(alloc);
-    waits.push(Symbol::Level {
-        level: WHOLE,
-        depth: 0,
-    })?;
-    waits.push(Symbol::Becomes)?;
-    waits.push(Symbol::Type(TypeUse::Switched))?;
+    let begun = Symbol::Type(TypeUse::Switched);
+    push_symbols(&mut waits, Pending::Three(begun, Symbol::Becomes, whole(0)))?;
     Ok(waits)
 }
 

@@ -155,7 +155,7 @@ fn number_first(n: u64) -> Option<Pending>
     if n >= INT_END {
         return None;
     }
-    Some(Pending::One(Symbol::Do(Action::Number(n as i64))))
+    Some(Pending::Build(Action::Number(n as i64)))
 }
 
 /// A token that begins an operand.
@@ -261,9 +261,9 @@ pub(crate) fn behind_field<N: Names>(names: &N, role: FieldUse, ty: TypeId, fiel
     ensures { pending result ≡ behind_field (N.scope names.now) role ty field }
 {
     match role {
-        FieldUse::Number => Pending::One(Symbol::Do(Action::Own { ty, field })),
-        FieldUse::Entity => Pending::One(Symbol::Do(Action::Ref(RefExpr::Own { ty, field }))),
-        FieldUse::Looked => Pending::One(Symbol::Do(Action::Field { ty, field })),
+        FieldUse::Number => Pending::Build(Action::Own { ty, field }),
+        FieldUse::Entity => Pending::Build(Action::Ref(RefExpr::Own { ty, field })),
+        FieldUse::Looked => Pending::Build(Action::Field { ty, field }),
         FieldUse::Assigned => {
             let found = Symbol::Do(Action::Field { ty, field });
             if names.is_ref(ty, field) {

@@ -31,27 +31,7 @@ pub(crate) fn value(stack: &mut Stack<Built>) -> Result<(), Memory>
     match stack.pop() {
         Some(Built::Int(value)) => with_value(stack, ValueExpr::Int(value)),
         Some(Built::Ref(found)) => with_value(stack, ValueExpr::Ref(found)),
-        Some(Built::Type(_)) => {
-            stack.clear();
-            Ok(())
-        }
-        Some(Built::Field { .. }) => {
-            stack.clear();
-            Ok(())
-        }
-        Some(Built::Name(_)) => {
-            stack.clear();
-            Ok(())
-        }
-        Some(Built::Part(_)) => {
-            stack.clear();
-            Ok(())
-        }
-        Some(Built::Parts(_)) => {
-            stack.clear();
-            Ok(())
-        }
-        Some(Built::Command(_)) => {
+        Some(_) => {
             stack.clear();
             Ok(())
         }

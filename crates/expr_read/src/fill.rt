@@ -102,7 +102,7 @@ fn fill_number(symbol: Symbol, n: u64) -> Option<Pending>
                 index,
                 version: n as u32,
             };
-            Some(Pending::One(Symbol::Do(Action::Ref(RefExpr::Entity(found)))))
+            Some(Pending::Build(Action::Ref(RefExpr::Entity(found))))
         }
         _ => None,
     }
@@ -134,7 +134,7 @@ fn alone<N: Names>(names: &N, role: TypeUse, name: &[u8]) -> Option<Pending>
 {
     match type_by(names, role, name) {
         None => None,
-        Some(ty) => Some(Pending::One(Symbol::Do(Action::Type(ty)))),
+        Some(ty) => Some(Pending::Build(Action::Type(ty))),
     }
 }
 

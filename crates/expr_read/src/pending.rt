@@ -17,6 +17,8 @@ pub(crate) const WHOLE: u8 = 5;
 pub(crate) enum Pending {
     /// None.
     Nothing,
+    /// A step of building.
+    Build(Action),
     /// One.
     One(Symbol),
     /// Two.
@@ -31,31 +33,16 @@ pub(crate) enum Pending {
     Behind(Verb),
 }
 
-/// Waits for three symbols.
-fn push_three(
-    waits: &mut Stack<Symbol>,
-    first: Symbol,
-    second: Symbol,
-    third: Symbol,
-) -> Result<(), Memory>
-    ensures { OnOk result (waits.new ≡ first ∷ second ∷ third ∷ waits.old) }
-{
-    waits.push(third)?;
-    waits.push(second)?;
-    waits.push(first)
-}
-
 /// Waits for what stands behind a reference in a call, and then builds.
 fn push_after_ref(waits: &mut Stack<Symbol>, second: Symbol, action: Action) -> Result<(), Memory>
     ensures { OnOk result (waits.new ≡ Symbol.Ref false ∷ Symbol.Comma ∷ second ∷ Symbol.Close ∷ Symbol.Do action ∷ waits.old) }
 {
-    waits.push(Symbol::Do(action))?;
-    waits.push(Symbol::Close)?;
-    push_three(waits, Symbol::Ref { made: false }, Symbol::Comma, second)
+    waits.push_three(second, Symbol::Close, Symbol::Do(action))?;
+    waits.push_two(Symbol::Ref { made: false }, Symbol::Comma)
 }
 
 /// A whole expression at a depth.
-fn whole(depth: u8) -> Symbol
+pub(crate) fn whole(depth: u8) -> Symbol
     ensures { result ≡ Symbol.Level 5 depth }
 {
     Symbol::Level {
@@ -70,31 +57,23 @@ fn push_arguments(waits: &mut Stack<Symbol>, call: Call, depth: u8) -> Result<()
 {
     match call {
         Call::Two(op) => {
-            waits.push(Symbol::Do(Action::Binary(op)))?;
-            waits.push(Symbol::Close)?;
-            push_three(waits, whole(depth), Symbol::Comma, whole(depth))
+            let build = Symbol::Do(Action::Binary(op));
+            waits.push_three(whole(depth), Symbol::Close, build)?;
+            waits.push_two(whole(depth), Symbol::Comma)
         }
         Call::Pick => {
-            push_three(
-                waits,
-                whole(depth),
-                Symbol::Close,
-                Symbol::Do(Action::Pick),
-            )?;
-            waits.push(Symbol::Comma)?;
-            push_three(waits, whole(depth), Symbol::Comma, whole(depth))
+            waits.push_three(whole(depth), Symbol::Close, Symbol::Do(Action::Pick))?;
+            waits.push_four(whole(depth), Symbol::Comma, whole(depth), Symbol::Comma)
         }
         Call::Get => push_after_ref(waits, Symbol::TypeField(FieldUse::Looked), Action::Get),
-        Call::Alive => push_three(
-            waits,
+        Call::Alive => waits.push_three(
             Symbol::Ref { made: false },
             Symbol::Close,
             Symbol::Do(Action::Alive),
         ),
         Call::Has => push_after_ref(waits, Symbol::Type(TypeUse::Asked), Action::Has),
         Call::Same => push_after_ref(waits, Symbol::Ref { made: false }, Action::Same),
-        Call::On => push_three(
-            waits,
+        Call::On => waits.push_three(
             Symbol::Type(TypeUse::Own),
             Symbol::Close,
             Symbol::Do(Action::On),
@@ -129,35 +108,29 @@ fn push_behind(waits: &mut Stack<Symbol>, verb: Verb) -> Result<(), Memory>
 {
     let named = Symbol::Ref { made: true };
     match verb {
-        Verb::Create => {
-            waits.push(Symbol::Do(Action::Create))?;
-            push_three(
-                waits,
-                Symbol::New,
-                Symbol::Do(Action::NoParts),
-                Symbol::With,
-            )
-        }
-        Verb::Destroy => {
-            waits.push(Symbol::Do(Action::Destroy))?;
-            waits.push(named)
-        }
-        Verb::Change(change) => push_three(
-            waits,
+        Verb::Create => waits.push_four(
+            Symbol::New,
+            Symbol::Do(Action::NoParts),
+            Symbol::With,
+            Symbol::Do(Action::Create),
+        ),
+        Verb::Destroy => waits.push_two(named, Symbol::Do(Action::Destroy)),
+        Verb::Change(change) => waits.push_three(
             named,
             Symbol::Part(part_use(change)),
             Symbol::Do(Action::Change(change)),
         ),
-        Verb::Turn(turn) => push_three(
-            waits,
+        Verb::Turn(turn) => waits.push_three(
             named,
             Symbol::Type(turn_use(turn)),
             Symbol::Do(Action::Turn(turn)),
         ),
-        Verb::Instantiate => {
-            waits.push(Symbol::Do(Action::Instantiate))?;
-            push_three(waits, Symbol::New, Symbol::From, named)
-        }
+        Verb::Instantiate => waits.push_four(
+            Symbol::New,
+            Symbol::From,
+            named,
+            Symbol::Do(Action::Instantiate),
+        ),
     }
 }
 
@@ -168,26 +141,23 @@ fn push_tails(waits: &mut Stack<Symbol>, level: u8, depth: u8) -> Result<(), Mem
     let mut left = level;
     while left > 0 {
         left -= 1;
-        waits.push(Symbol::Tail { level: left, depth })?;
+        push_symbols(waits, Pending::One(Symbol::Tail { level: left, depth }))?;
     }
     Ok(())
 }
 
 /// Waits for some symbols.
-fn push_symbols(waits: &mut Stack<Symbol>, symbols: Pending) -> Result<(), Memory>
+pub(crate) fn push_symbols(waits: &mut Stack<Symbol>, symbols: Pending) -> Result<(), Memory>
     ensures { OnOk result (waits.new ≡ pending symbols ++ waits.old) }
 {
     match symbols {
         Pending::Nothing => Ok(()),
+        Pending::Build(action) => waits.push(Symbol::Do(action)),
         Pending::One(first) => waits.push(first),
-        Pending::Two(first, second) => {
-            waits.push(second)?;
-            waits.push(first)
-        }
-        Pending::Three(first, second, third) => push_three(waits, first, second, third),
+        Pending::Two(first, second) => waits.push_two(first, second),
+        Pending::Three(first, second, third) => waits.push_three(first, second, third),
         Pending::Four(first, second, third, fourth) => {
-            waits.push(fourth)?;
-            push_three(waits, first, second, third)
+            waits.push_four(first, second, third, fourth)
         }
         Pending::Arguments { call, depth } => push_arguments(waits, call, depth),
         Pending::Behind(verb) => push_behind(waits, verb),

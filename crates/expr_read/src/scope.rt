@@ -15,8 +15,8 @@ use crate::places::type_of;
 use crate::{Call, FieldUse, RefExpr, TypeUse, Variable};
 use by_kind::{has_suited, is_ref_kind, is_shared, kind_of_field, suited_field};
 use by_word::{is, own_reference, plain_call, system_call, system_variable};
-use left::{is_left, is_taken, kind_at};
 use ent_types::{Kind, Name, Registry, TypeId, TypeInfo, TypeSet};
+use left::{is_left, is_taken, kind_at};
 
 /// The number of the built-in type `SceneTag`.
 const SCENE_TAG: u16 = 2;

@@ -56,6 +56,36 @@ impl<T: Drop> Stack<T> {
         Ok(())
     }
 
+    /// Puts two elements on top, the first one above the second.
+    pub(crate) fn push_two(&mut self, first: T, second: T) -> Result<(), Memory>
+        ensures { OnOk result (self.new ≡ first ∷ second ∷ self.old) }
+    {
+        self.push(second)?;
+        self.push(first)
+    }
+
+    /// Puts three elements on top, the first one above the others.
+    pub(crate) fn push_three(&mut self, first: T, second: T, third: T) -> Result<(), Memory>
+        ensures { OnOk result (self.new ≡ first ∷ second ∷ third ∷ self.old) }
+    {
+        self.push_two(second, third)?;
+        self.push(first)
+    }
+
+    /// Puts four elements on top, the first one above the others.
+    pub(crate) fn push_four(
+        &mut self,
+        first: T,
+        second: T,
+        third: T,
+        fourth: T,
+    ) -> Result<(), Memory>
+        ensures { OnOk result (self.new ≡ first ∷ second ∷ third ∷ fourth ∷ self.old) }
+    {
+        self.push_two(third, fourth)?;
+        self.push_two(first, second)
+    }
+
     /// Takes the element at the top away, if there is one.
     pub(crate) fn lower(&mut self)
         ensures { self.new ≡ drop 1 self.old }

@@ -13,31 +13,7 @@ pub(crate) fn pop_int(stack: &mut Stack<Built>) -> Option<Expr>
 {
     match stack.pop() {
         Some(Built::Int(value)) => Some(value),
-        Some(Built::Ref(_)) => {
-            stack.clear();
-            None
-        }
-        Some(Built::Type(_)) => {
-            stack.clear();
-            None
-        }
-        Some(Built::Field { .. }) => {
-            stack.clear();
-            None
-        }
-        Some(Built::Name(_)) => {
-            stack.clear();
-            None
-        }
-        Some(Built::Part(_)) => {
-            stack.clear();
-            None
-        }
-        Some(Built::Parts(_)) => {
-            stack.clear();
-            None
-        }
-        Some(Built::Command(_)) => {
+        Some(_) => {
             stack.clear();
             None
         }
@@ -51,31 +27,7 @@ pub(crate) fn pop_ref(stack: &mut Stack<Built>) -> Option<RefExpr>
 {
     match stack.pop() {
         Some(Built::Ref(found)) => Some(found),
-        Some(Built::Int(_)) => {
-            stack.clear();
-            None
-        }
-        Some(Built::Type(_)) => {
-            stack.clear();
-            None
-        }
-        Some(Built::Field { .. }) => {
-            stack.clear();
-            None
-        }
-        Some(Built::Name(_)) => {
-            stack.clear();
-            None
-        }
-        Some(Built::Part(_)) => {
-            stack.clear();
-            None
-        }
-        Some(Built::Parts(_)) => {
-            stack.clear();
-            None
-        }
-        Some(Built::Command(_)) => {
+        Some(_) => {
             stack.clear();
             None
         }
@@ -89,31 +41,7 @@ pub(crate) fn pop_type(stack: &mut Stack<Built>) -> Option<TypeId>
 {
     match stack.pop() {
         Some(Built::Type(ty)) => Some(ty),
-        Some(Built::Int(_)) => {
-            stack.clear();
-            None
-        }
-        Some(Built::Ref(_)) => {
-            stack.clear();
-            None
-        }
-        Some(Built::Field { .. }) => {
-            stack.clear();
-            None
-        }
-        Some(Built::Name(_)) => {
-            stack.clear();
-            None
-        }
-        Some(Built::Part(_)) => {
-            stack.clear();
-            None
-        }
-        Some(Built::Parts(_)) => {
-            stack.clear();
-            None
-        }
-        Some(Built::Command(_)) => {
+        Some(_) => {
             stack.clear();
             None
         }
@@ -127,35 +55,21 @@ pub(crate) fn pop_field(stack: &mut Stack<Built>) -> Option<(TypeId, u8)>
 {
     match stack.pop() {
         Some(Built::Field { ty, field }) => Some((ty, field)),
-        Some(Built::Int(_)) => {
-            stack.clear();
-            None
-        }
-        Some(Built::Ref(_)) => {
-            stack.clear();
-            None
-        }
-        Some(Built::Type(_)) => {
-            stack.clear();
-            None
-        }
-        Some(Built::Name(_)) => {
-            stack.clear();
-            None
-        }
-        Some(Built::Part(_)) => {
-            stack.clear();
-            None
-        }
-        Some(Built::Parts(_)) => {
-            stack.clear();
-            None
-        }
-        Some(Built::Command(_)) => {
+        Some(_) => {
             stack.clear();
             None
         }
         None => None,
+    }
+}
+
+/// The name, if it is one.
+fn name_in(top: &Built) -> Option<Name>
+    ensures { result ≡ top_name (top.now ∷ []) }
+{
+    match top {
+        Built::Name(name) => Some(*name),
+        _ => None,
     }
 }
 
@@ -164,36 +78,14 @@ pub(crate) fn pop_name(stack: &mut Stack<Built>) -> Option<Name>
     ensures { MatchOption result ((top_name stack.old ≡ None) × (stack.new ≡ [])) (λ name. stack.old ≡ Built.Name name ∷ stack.new) }
 {
     match stack.pop() {
-        Some(Built::Name(name)) => Some(name),
-        Some(Built::Int(_)) => {
-            stack.clear();
-            None
-        }
-        Some(Built::Ref(_)) => {
-            stack.clear();
-            None
-        }
-        Some(Built::Type(_)) => {
-            stack.clear();
-            None
-        }
-        Some(Built::Field { .. }) => {
-            stack.clear();
-            None
-        }
-        Some(Built::Part(_)) => {
-            stack.clear();
-            None
-        }
-        Some(Built::Parts(_)) => {
-            stack.clear();
-            None
-        }
-        Some(Built::Command(_)) => {
-            stack.clear();
-            None
-        }
         None => None,
+        Some(top) => {
+            let name = name_in(&top);
+            if name.is_none() {
+                stack.clear();
+            }
+            name
+        }
     }
 }
 
@@ -203,31 +95,7 @@ pub(crate) fn pop_part(stack: &mut Stack<Built>) -> Option<PartExpr>
 {
     match stack.pop() {
         Some(Built::Part(part)) => Some(part),
-        Some(Built::Int(_)) => {
-            stack.clear();
-            None
-        }
-        Some(Built::Ref(_)) => {
-            stack.clear();
-            None
-        }
-        Some(Built::Type(_)) => {
-            stack.clear();
-            None
-        }
-        Some(Built::Field { .. }) => {
-            stack.clear();
-            None
-        }
-        Some(Built::Name(_)) => {
-            stack.clear();
-            None
-        }
-        Some(Built::Parts(_)) => {
-            stack.clear();
-            None
-        }
-        Some(Built::Command(_)) => {
+        Some(_) => {
             stack.clear();
             None
         }
@@ -241,31 +109,7 @@ pub(crate) fn pop_parts(stack: &mut Stack<Built>) -> Option<Sequence<PartExpr>>
 {
     match stack.pop() {
         Some(Built::Parts(parts)) => Some(parts),
-        Some(Built::Int(_)) => {
-            stack.clear();
-            None
-        }
-        Some(Built::Ref(_)) => {
-            stack.clear();
-            None
-        }
-        Some(Built::Type(_)) => {
-            stack.clear();
-            None
-        }
-        Some(Built::Field { .. }) => {
-            stack.clear();
-            None
-        }
-        Some(Built::Name(_)) => {
-            stack.clear();
-            None
-        }
-        Some(Built::Part(_)) => {
-            stack.clear();
-            None
-        }
-        Some(Built::Command(_)) => {
+        Some(_) => {
             stack.clear();
             None
         }

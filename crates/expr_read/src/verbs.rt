@@ -80,7 +80,7 @@ pub(crate) fn new_name<N: Names>(names: &N, name: &[u8]) -> Option<Pending>
 {
     match names.new_name(name) {
         None => None,
-        Some(made) => Some(Pending::One(Symbol::Do(Action::New(made)))),
+        Some(made) => Some(Pending::Build(Action::New(made))),
     }
 }
 
@@ -112,10 +112,10 @@ pub(crate) fn with<N: Names>(names: &N, name: &[u8]) -> Option<Pending>
 fn part_places<N: Names>(names: &N, ty: TypeId) -> Pending
     ensures { pending result ≡ part_places (N.scope names.now) ty }
 {
-    let begun = Symbol::Do(Action::Part(ty));
+    let begun = Action::Part(ty);
     match names.kind_at(ty, 0) {
-        None => Pending::One(begun),
-        Some(_) => Pending::Two(begun, Symbol::Values(ty)),
+        None => Pending::Build(begun),
+        Some(_) => Pending::Two(Symbol::Do(begun), Symbol::Values(ty)),
     }
 }
 

@@ -156,7 +156,10 @@ fn the_first_fault_of_a_command_is_told(rt: HostRuntime) -> Result<(), Fail> {
         ("instantiate a self", ExprCause::UnknownName, 14),
     ];
     for (text, cause, at) in texts {
-        assert_eq!(rt; read_command(alloc, text, &scope).err(), Some(fault(cause, at)));
+        assert_eq!(rt;
+            read_command(alloc, text, &scope).err(),
+            Some(fault(cause, at))
+        );
     }
     Ok(())
 }

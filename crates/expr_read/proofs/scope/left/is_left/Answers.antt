@@ -3,4 +3,4 @@ use Rattle.expr_read.proofs.TypesLeft.{listed}
 use Rattle.expr_read.proofs.scope.left.is_left.Goals as goal
 
 pub returns : goal.returns
-returns c = ap not (c.has.ensures ∙ listed c.args.used c.args.ty)
+returns c = ap not (c.has.ensures.value ∙ listed c.args.used c.args.ty)

@@ -15,4 +15,4 @@ pub returns-in-None-clause-value : goal.returns-in-None-clause-value
 returns-in-None-clause-value c = ap (option_map is_ref) c.in-None.ensures.value ∙ kind_from c.args.info.now.fields c.args.at
 
 pub returns-in-Some-clause-value : goal.returns-in-Some-clause-value
-returns-in-Some-clause-value c = ap (option_map is_ref) c.in-Some.ensures.value ∙ kind_from c.args.info.now.fields c.args.at
+returns-in-Some-clause-value c = ap Some c.is_ref_kind.ensures ∙ ap (option_map is_ref) c.in-Some.ensures.value ∙ kind_from c.args.info.now.fields c.args.at
