@@ -1,5 +1,5 @@
 -- What the machine does is what is answered.
-use Rattle.std.proofs.Common.{ℕ, ◌≡◌, ◌≤◌, ◌<◌, List, [], ◌∷◌, ◌++◌, map, Bool, true, false, cond, length, Option, None, Some, Result, Ok, Err, refl, sym, ap, ◌∙◌, subst, arith}
+use Rattle.std.proofs.Common.{ℕ, ◌≡◌, ◌≤◌, ◌<◌, List, [], ◌∷◌, ◌++◌, map, cond, length, Option, None, Some, Ok, Err, sym, ap, ◌∙◌, subst}
 use Rattle.std.proofs.lemmas.Bool.{lt-ltb, le-ltb}
 use Rattle.expr_tokens.specs.Tokens.{Placed, AreTokens}
 use Rattle.expr_tokens.specs.Lexing.{tokens_of}
@@ -10,10 +10,10 @@ use Rattle.expr_read.specs.declared.fault.ExprCause.{ExprCause}
 use Rattle.expr_read.specs.declared.fault.ExprCause.TheVariants.{TooLong, BadChar, NumberRange, TooDeep, UnknownName, Unexpected, Memory}
 use Rattle.expr_read.specs.declared.symbol.Symbol.{Symbol}
 use Rattle.expr_read.specs.declared.symbol.Built.{Built}
-use Rattle.expr_read.specs.Answers.{or_fault, goes_on, stopped, answer, made_by, ButMemory, Tells}
-use Rattle.expr_read.specs.Machine.{State, run, settle, finish, steps, go_on, and_then}
+use Rattle.expr_read.specs.Answers.{or_fault, goes_on, stopped, answer, made_by, ButMemory}
+use Rattle.expr_read.specs.Machine.{State, run, settle, steps, go_on, and_then}
 use Rattle.expr_read.specs.Reader.{cause_at, Halts, Stops}
-use Rattle.expr_read.specs.Readings.{Reads, Refuses, StopsIn, too_long, no_memory, stopped as stops_in}
+use Rattle.expr_read.specs.Readings.{Reads, Refuses, too_long, no_memory, stopped as stops_in}
 use Rattle.expr_read.specs.Scopes.{Scope}
 
 but : (c : ExprCause) {P : Type 0} → P → ButMemory c P
