@@ -1,6 +1,9 @@
 pub mod Answered
+mod Answering
 pub mod Assigning
+pub mod ByGrammar
 mod ChainSteps
+pub mod CommandAnswers
 mod CommandScopeLaws
 mod CommandBuilt
 mod CommandRead
@@ -13,6 +16,7 @@ mod Completions
 pub mod FirstFaults
 mod Keeps
 mod NewNames
+mod Outcomes
 mod Prefixes
 mod PrintedNames
 pub mod PrintedTokens
@@ -26,6 +30,7 @@ pub mod Settling
 mod SignFacts
 pub mod Starts
 mod Takes
+pub mod TreeAnswers
 mod TypesLeft
 mod TokenFronts
 pub mod TokenSteps

@@ -4,6 +4,7 @@ ghost use Rattle.ent_types.specs.declared.entity.TypeId.{TypeId};
 ghost use Rattle.expr_read.specs.declared.tree.ValueExpr.{ValueExpr};
 ghost use Rattle.expr_read.specs.declared.tree.Assign.{Assign};
 ghost use Rattle.expr_read.specs.declared.tree.Switch.{Switch};
+ghost use Rattle.expr_read.specs.Answers.{Tells, assign_answer, switch_answer};
 ghost use Rattle.expr_read.specs.Languages.{assigns, switches};
 ghost use Rattle.expr_read.specs.Reader.{built_of, built_assign, built_switch};
 ghost use Rattle.expr_read.specs.Readings.{Reads, Refuses, ReadsText};
@@ -145,7 +146,8 @@ pub(crate) fn read_assign_by<N: Names>(
     names: &N,
 ) -> Result<Assign, ExprFault>
     requires { IsLawful (N.scope names.now) }
-    ensures { ReadsText (assigns (N.scope names.now)) text.now result }
+    ensures reads { ReadsText (assigns (N.scope names.now)) text.now result }
+    ensures told { Tells (assign_answer (N.scope names.now) text.now) result }
 {
     match read_from(alloc, names, Symbol::TypeField(FieldUse::Assigned), text) {
         Ok(built) => Ok(the_assign(built)),
@@ -162,7 +164,8 @@ pub(crate) fn read_switch_by<N: Names>(
     names: &N,
 ) -> Result<Switch, ExprFault>
     requires { IsLawful (N.scope names.now) }
-    ensures { ReadsText (switches (N.scope names.now)) text.now result }
+    ensures reads { ReadsText (switches (N.scope names.now)) text.now result }
+    ensures told { Tells (switch_answer (N.scope names.now) text.now) result }
 {
     match read_switch_text(alloc, names, text) {
         Ok(built) => Ok(the_switch(built)),

@@ -2,6 +2,7 @@
 ghost use Rattle.std.specs.Prelude.{◌≡◌, [], ◌∷◌};
 ghost use Rattle.expr_read.specs.declared.tree.CommandText.{CommandText};
 ghost use Rattle.expr_read.specs.CommandScopes.{ServesCommands};
+ghost use Rattle.expr_read.specs.Answers.{Tells, command_answer};
 ghost use Rattle.expr_read.specs.Languages.{commands};
 ghost use Rattle.expr_read.specs.Readings.{ReadsText};
 ghost use Rattle.expr_read.specs.Scopes.{IsLawful};
@@ -42,7 +43,8 @@ pub(crate) fn read_command_by<N: Names>(
 ) -> Result<CommandText, ExprFault>
     requires lawful { IsLawful (N.scope names.now) }
     requires serves { ServesCommands (N.scope names.now) }
-    ensures { ReadsText (commands (N.scope names.now)) text.now result }
+    ensures reads { ReadsText (commands (N.scope names.now)) text.now result }
+    ensures told { Tells (command_answer (N.scope names.now) text.now) result }
 {
     match read_from(alloc, names, Symbol::Verb, text) {
         Ok(built) => Ok(the_command(built)),

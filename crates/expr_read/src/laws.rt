@@ -1,10 +1,11 @@
 //! Laws of the grammar: a text has one derivation, and a machine with a stack reads exactly the texts.
-ghost use Rattle.std.specs.Prelude.{◌≡◌, ℕ, List, [], ◌∷◌, ◌↔◌, Bool, false, Some};
+ghost use Rattle.std.specs.Prelude.{◌≡◌, ◌≢◌, ℕ, List, [], ◌∷◌, ◌↔◌, Bool, false, Some, IfErr};
 ghost use Rattle.expr_tokens.specs.Tokens.{Token, Placed};
 ghost use Rattle.expr_read.specs.declared.fault.ExprCause.{ExprCause};
 ghost use Rattle.expr_read.specs.declared.symbol.Symbol.TheVariants as wait;
 ghost use Rattle.expr_read.specs.declared.symbol.Built.{Built};
 ghost use Rattle.expr_read.specs.declared.symbol.Built.TheVariants as built;
+ghost use Rattle.expr_read.specs.Answers.{expr_answer, ref_answer, assign_answer, switch_answer, command_answer};
 ghost use Rattle.expr_read.specs.CommandScopes.{ServesCommands};
 ghost use Rattle.expr_read.specs.Fitting.{FitsExpr, FitsRef, FitsCommand};
 ghost use Rattle.expr_read.specs.Grammar.{Syntax, expr, Ref, Command, spell, spell_ref, spell_command};
@@ -15,6 +16,7 @@ ghost use Rattle.expr_read.specs.declared.words.TypeUse.TheVariants.{Switched};
 ghost use Rattle.expr_read.specs.Machine.{State, run, steps};
 ghost use Rattle.expr_read.specs.Meaning.{meaning, meaning_ref, meaning_command};
 ghost use Rattle.expr_read.specs.Reader.{Stops};
+ghost use Rattle.expr_read.specs.Readings.{ReadsText};
 ghost use Rattle.expr_read.specs.Scopes.{Scope, IsLawful};
 
 /// Tokens have one derivation at most, as an expression and as a reference.
@@ -66,4 +68,18 @@ pub fn stops_at_the_first_fault()
         Stops s limit (wait.TypeField Assigned ∷ []) tokens end cause at → IsFirstFault (assigns s) limit tokens end cause at }
     ensures switches { (s : Scope) → IsLawful s → (limit : ℕ) (tokens : List Placed) (end : ℕ) (cause : ExprCause) (at : ℕ) →
         Stops s limit (wait.Type Switched ∷ wait.Becomes ∷ wait.Level 5 0 ∷ []) tokens end cause at → IsFirstFault (switches s) limit tokens end cause at }
+{}
+
+/// Each text has one answer, and that is the grammar's: what the text means, or its first fault, never want of memory.
+pub fn texts_are_answered_by_the_grammar()
+    ensures exprs { (s : Scope) → IsLawful s → (text : List ℕ) →
+        ReadsText (exprs s) text (expr_answer s text) × IfErr (expr_answer s text) (λ f. f.cause ≢ ExprCause.Memory) }
+    ensures refs { (s : Scope) → IsLawful s → (text : List ℕ) →
+        ReadsText (refs s) text (ref_answer s text) × IfErr (ref_answer s text) (λ f. f.cause ≢ ExprCause.Memory) }
+    ensures assigns { (s : Scope) → IsLawful s → (text : List ℕ) →
+        ReadsText (assigns s) text (assign_answer s text) × IfErr (assign_answer s text) (λ f. f.cause ≢ ExprCause.Memory) }
+    ensures switches { (s : Scope) → IsLawful s → (text : List ℕ) →
+        ReadsText (switches s) text (switch_answer s text) × IfErr (switch_answer s text) (λ f. f.cause ≢ ExprCause.Memory) }
+    ensures commands { (s : Scope) → IsLawful s → ServesCommands s → (text : List ℕ) →
+        ReadsText (commands s) text (command_answer s text) × IfErr (command_answer s text) (λ f. f.cause ≢ ExprCause.Memory) }
 {}

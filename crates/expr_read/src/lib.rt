@@ -34,7 +34,7 @@ pub use chain::read_chain;
 pub use fault::{ExprCause, ExprFault};
 pub use laws::{
     goes_on_with_the_grammar, machine_reads_commands, machine_reads_the_grammar, one_derivation,
-    stops_at_the_first_fault,
+    stops_at_the_first_fault, texts_are_answered_by_the_grammar,
 };
 pub use print::print_expr;
 pub use readers::{read_assign, read_command, read_expr, read_ref, read_switch};

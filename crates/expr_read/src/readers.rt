@@ -1,4 +1,5 @@
 //! The readers of texts where they stand.
+ghost use Rattle.expr_read.specs.Answers.{Tells, assign_answer, command_answer, expr_answer, ref_answer, switch_answer};
 ghost use Rattle.expr_read.specs.Languages.{assigns, commands, exprs, refs, switches};
 ghost use Rattle.expr_read.specs.Readings.{ReadsText};
 ghost use Rattle.expr_read.specs.ScopeOf.{scope_of};
@@ -16,7 +17,8 @@ use std::alloc::Global;
 /// `NumberRange`, `TooDeep`, `UnknownName` and `Unexpected`. `Memory` is for want of memory alone. The language is this
 /// project's own.
 pub fn read_expr(alloc: Global, text: &str, scope: &Scope) -> Result<Expr, ExprFault>
-    ensures { ReadsText (exprs (scope_of scope.now.registry.now scope.now.place scope.now.bound.now scope.now.made.now)) text.now result }
+    ensures reads { ReadsText (exprs (scope_of scope.now.registry.now scope.now.place scope.now.bound.now scope.now.made.now)) text.now result }
+    ensures told { Tells (expr_answer (scope_of scope.now.registry.now scope.now.place scope.now.bound.now scope.now.made.now) text.now) result }
 {
     scope.law();
     read_expr_by(alloc, text, scope)
@@ -24,7 +26,8 @@ pub fn read_expr(alloc: Global, text: &str, scope: &Scope) -> Result<Expr, ExprF
 
 /// The reference that a text is where it stands, or its first fault, as `read_expr` tells it. No made name fits.
 pub fn read_ref(alloc: Global, text: &str, scope: &Scope) -> Result<RefExpr, ExprFault>
-    ensures { ReadsText (refs (scope_of scope.now.registry.now scope.now.place scope.now.bound.now scope.now.made.now)) text.now result }
+    ensures reads { ReadsText (refs (scope_of scope.now.registry.now scope.now.place scope.now.bound.now scope.now.made.now)) text.now result }
+    ensures told { Tells (ref_answer (scope_of scope.now.registry.now scope.now.place scope.now.bound.now scope.now.made.now) text.now) result }
 {
     scope.law();
     read_ref_by(alloc, text, scope)
@@ -33,7 +36,8 @@ pub fn read_ref(alloc: Global, text: &str, scope: &Scope) -> Result<RefExpr, Exp
 /// The assign `TYPE.FIELD = value` that a text is where it stands, or its first fault, as `read_expr` tells it. The value
 /// is an expression or a reference by the field's kind.
 pub fn read_assign(alloc: Global, text: &str, scope: &Scope) -> Result<Assign, ExprFault>
-    ensures { ReadsText (assigns (scope_of scope.now.registry.now scope.now.place scope.now.bound.now scope.now.made.now)) text.now result }
+    ensures reads { ReadsText (assigns (scope_of scope.now.registry.now scope.now.place scope.now.bound.now scope.now.made.now)) text.now result }
+    ensures told { Tells (assign_answer (scope_of scope.now.registry.now scope.now.place scope.now.bound.now scope.now.made.now) text.now) result }
 {
     scope.law();
     read_assign_by(alloc, text, scope)
@@ -41,7 +45,8 @@ pub fn read_assign(alloc: Global, text: &str, scope: &Scope) -> Result<Assign, E
 
 /// The switch `TYPE = expr` that a text is where it stands, or its first fault, as `read_expr` tells it.
 pub fn read_switch(alloc: Global, text: &str, scope: &Scope) -> Result<Switch, ExprFault>
-    ensures { ReadsText (switches (scope_of scope.now.registry.now scope.now.place scope.now.bound.now scope.now.made.now)) text.now result }
+    ensures reads { ReadsText (switches (scope_of scope.now.registry.now scope.now.place scope.now.bound.now scope.now.made.now)) text.now result }
+    ensures told { Tells (switch_answer (scope_of scope.now.registry.now scope.now.place scope.now.bound.now scope.now.made.now) text.now) result }
 {
     scope.law();
     read_switch_by(alloc, text, scope)
@@ -50,7 +55,8 @@ pub fn read_switch(alloc: Global, text: &str, scope: &Scope) -> Result<Switch, E
 /// The command that a text is where it stands, or its first fault, as `read_expr` tells it. A made name fits where a
 /// reference stands by itself, as what is destroyed or as the value of a ref field.
 pub fn read_command(alloc: Global, text: &str, scope: &Scope) -> Result<CommandText, ExprFault>
-    ensures { ReadsText (commands (scope_of scope.now.registry.now scope.now.place scope.now.bound.now scope.now.made.now)) text.now result }
+    ensures reads { ReadsText (commands (scope_of scope.now.registry.now scope.now.place scope.now.bound.now scope.now.made.now)) text.now result }
+    ensures told { Tells (command_answer (scope_of scope.now.registry.now scope.now.place scope.now.bound.now scope.now.made.now) text.now) result }
 {
     scope.law();
     scope.command_law();

@@ -2,6 +2,7 @@
 ghost use Rattle.std.specs.Prelude.{◌≡◌, [], ◌∷◌, MatchResult};
 ghost use Rattle.expr_read.specs.declared.tree.Expr.{Expr};
 ghost use Rattle.expr_read.specs.declared.tree.RefExpr.{RefExpr};
+ghost use Rattle.expr_read.specs.Answers.{Tells, expr_answer, ref_answer};
 ghost use Rattle.expr_read.specs.Languages.{exprs, refs};
 ghost use Rattle.expr_read.specs.Readings.{Reads, Refuses, ReadsText};
 ghost use Rattle.expr_read.specs.Scopes.{IsLawful};
@@ -77,7 +78,8 @@ pub(crate) fn read_expr_by<N: Names>(
     names: &N,
 ) -> Result<Expr, ExprFault>
     requires { IsLawful (N.scope names.now) }
-    ensures { ReadsText (exprs (N.scope names.now)) text.now result }
+    ensures reads { ReadsText (exprs (N.scope names.now)) text.now result }
+    ensures told { Tells (expr_answer (N.scope names.now) text.now) result }
 {
     let start = Symbol::Level {
         level: WHOLE,
@@ -98,7 +100,8 @@ pub(crate) fn read_ref_by<N: Names>(
     names: &N,
 ) -> Result<RefExpr, ExprFault>
     requires { IsLawful (N.scope names.now) }
-    ensures { ReadsText (refs (N.scope names.now)) text.now result }
+    ensures reads { ReadsText (refs (N.scope names.now)) text.now result }
+    ensures told { Tells (ref_answer (N.scope names.now) text.now) result }
 {
     match read_from(alloc, names, Symbol::Ref { made: false }, text) {
         Ok(built) => Ok(the_ref(built)),

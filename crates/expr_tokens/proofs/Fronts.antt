@@ -39,7 +39,7 @@ start_is_byte : (d u l e : Bool) → ((u || l) || e) ≡ true → (((d || u) || 
 start_is_byte true u l e h = refl
 start_is_byte false u l e h = h
 
-start_is_name : (b : ℕ) → is_name_start b ≡ true → is_name_byte b ≡ true
+pub start_is_name : (b : ℕ) → is_name_start b ≡ true → is_name_byte b ≡ true
 start_is_name b h = start_is_byte (is_in_range 48 57 b) (is_in_range 65 90 b) (is_in_range 97 122 b) (eqb b 95) h
 
 word_bytes : (bytes : List ℕ) → is_word bytes ≡ true → list_all is_name_byte bytes ≡ true

@@ -1,4 +1,5 @@
 pub mod Fronts
+pub mod Lexed
 pub mod Signs
 pub mod Texts
-mod Unique
+pub mod Unique

@@ -1,14 +1,12 @@
 -- A text has one list of tokens.
-use Rattle.std.proofs.Common.{ℕ, zero, suc, ◌≡◌, ◌≤◌, ◌<◌, ◌+◌, List, [], ◌∷◌, ◌⊎◌, inl, inr, true, false, length, get_or, take, drop, Some, refl, sym, ap, ◌∙◌, subst, arith, ⊎_elim, eqb, length-take, length-drop, add-zero}
-use Rattle.std.specs.Prelude.{All}
+use Rattle.std.proofs.Common.{ℕ, ◌≡◌, ◌≤◌, ◌<◌, ◌+◌, List, [], ◌∷◌, ◌⊎◌, inl, inr, true, length, get_or, take, drop, Some, refl, sym, ap, ◌∙◌, subst, arith, ⊎_elim, eqb, length-take, length-drop, add-zero}
 use Rattle.std.proofs.lemmas.Bool.{false≢true, eq-eqb}
 use Rattle.std.proofs.lemmas.List.{get_or-take, get_or-drop, length-take-le}
 use Rattle.std.proofs.lemmas.List.Elements.{All-get_or}
 use Rattle.std.proofs.str.Laws.{order}
 use Rattle.std.specs.Char.{is_ascii_digit}
 use Rattle.ent_types.specs.Names.{is_name_start}
-use Rattle.expr_tokens.specs.declared.sign.Sign.{Sign}
-use Rattle.expr_tokens.specs.Tokens.{Token, word, number, sign, bad, Placed, spelling, is_word, is_digits, IsToken, IsLongest, BeginsNone, IsSpace, Spans, Follows, AreTokens}
+use Rattle.expr_tokens.specs.Tokens.{Token, word, number, sign, bad, Placed, is_word, is_digits, IsToken, IsLongest, BeginsNone, IsSpace, Spans, Follows, AreTokens}
 use Rattle.expr_tokens.proofs.Signs.{first_byte, front_byte, lengths, read, read_back}
 use Rattle.expr_tokens.proofs.Fronts.{word_start, digits_start, start_no_digit, first_of, some_taken}
 

@@ -2,6 +2,7 @@
 ghost use Rattle.std.specs.Prelude.{List, ◌≡◌, ◌≢◌, ℕ, ◌+◌, ◌*◌, ◌^◌, ◌<◌, ◌≤◌, false, true, length, slice_index, min, map, All, IfOk, MatchOption};
 ghost use Rattle.std.specs.Char.{is_ascii_digit};
 ghost use Rattle.expr_tokens.specs.Tokens.{Placed, AreTokens, Spans, number_value, IsLongest, BeginsNoSign, IsLongestSign, NoPair};
+ghost use Rattle.expr_tokens.specs.Lexing.{tokens_of};
 ghost use Rattle.ent_types.specs.Names.{is_name_start};
 ghost use Rattle.expr_tokens.specs.Seen.{seen, token_seen, belongs};
 
@@ -141,6 +142,11 @@ pub fn tokens(alloc: Global, text: &[u8]) -> Result<Vec<Lexeme<'_>>, Memory>
     }
     Ok(out)
 }
+
+/// The function of a text's bytes gives its tokens.
+pub fn text_has_tokens()
+    ensures { (text : List ℕ) → AreTokens 0 text (tokens_of text) }
+{}
 
 /// A text has one list of tokens: the law that callers cite.
 pub fn one_list()

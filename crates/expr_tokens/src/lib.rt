@@ -6,6 +6,6 @@ mod lexer;
 mod sign;
 mod token;
 
-pub use lexer::{one_list, tokens};
+pub use lexer::{one_list, text_has_tokens, tokens};
 pub use sign::Sign;
 pub use token::{Lexeme, Token};
