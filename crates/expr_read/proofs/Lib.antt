@@ -8,9 +8,11 @@ pub mod FirstFaults
 mod Keeps
 mod NewNames
 mod Prefixes
+pub mod PrintedExprs
+mod PrintedLeaves
 mod PrintedNames
 pub mod PrintedTokens
-pub mod PrintedTrees
+mod PrintedTrees
 pub mod Raised
 mod ReadExprs
 mod ReadRefs
