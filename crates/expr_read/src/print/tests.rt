@@ -1,7 +1,7 @@
 //! Printed expressions of every kind, which are read back in a spawn or in a system.
-ghost use Rattle.std.specs.Prelude.{◌≡◌, true, IfOk};
+ghost use Rattle.std.specs.Prelude.{◌≡◌};
 ghost use Rattle.expr_read.specs.Printing.{IsPrintable};
-ghost use Rattle.expr_read.specs.PrintedTexts.{is_field, is_printable};
+ghost use Rattle.expr_read.specs.PrintedTexts.{is_field};
 
 use super::*;
 use crate::{BinaryOp, RefExpr, Scope, TextPlace, UnaryOp, Variable, read_expr};
@@ -205,30 +205,5 @@ fn own_fields_read_back_by_their_kind(rt: HostRuntime) -> Result<(), Fail> {
     let number = Expr::Own { ty: BODY, field: 1 };
     let found = round(alloc, place, &registry, &number)?;
     assert_eq!(rt; found.as_str(), "UnknownName: Body.to");
-    Ok(())
-}
-
-/// 1, denied so many times.
-fn denied(alloc: Global, registry: &Registry, times: u32) -> Result<Expr, Fail>
-    ensures { IfOk result (λ e. is_printable registry.now e ≡ true) }
-{
-    if times == 0 {
-        return Ok(Expr::Number(1));
-    }
-    let e = Boxed::new(alloc, denied(alloc, registry, times - 1)?)?;
-    Ok(Expr::Unary(UnaryOp::Not, e))
-}
-
-#[test]
-fn a_text_may_nest_deeper_than_a_reader_takes(rt: HostRuntime) -> Result<(), Fail> {
-    let alloc = rt.alloc();
-    let registry = Registry::new(alloc)?;
-    // A sign and its parenthesis nest by 2, and a reader takes 64.
-    let most = denied(alloc, &registry, 32)?;
-    let found = round(alloc, TextPlace::System, &registry, &most)?;
-    assert!(rt; found.as_str().starts_with("same: !(!("));
-    let deeper = denied(alloc, &registry, 33)?;
-    let found = round(alloc, TextPlace::System, &registry, &deeper)?;
-    assert!(rt; found.as_str().starts_with("TooDeep: !(!("));
     Ok(())
 }
