@@ -17,9 +17,8 @@ use Rattle.expr_read.specs.declared.tree.UnaryOp.{UnaryOp}
 use Rattle.expr_read.specs.declared.tree.UnaryOp.TheVariants as unary
 use Rattle.expr_read.specs.declared.tree.BinaryOp.{BinaryOp}
 use Rattle.expr_read.specs.declared.tree.BinaryOp.TheVariants as binary
-use Rattle.expr_read.specs.declared.tree.Variable.{Variable}
 use Rattle.expr_read.specs.Fitting.{Fits}
-use Rattle.expr_read.specs.Grammar.{group, signed, named, two, pick, has, spell}
+use Rattle.expr_read.specs.Grammar.{group, signed, named, two, pick, spell}
 use Rattle.expr_read.specs.Meaning.{meaning}
 use Rattle.expr_read.specs.Printing.{anywhere, Prints}
 use Rattle.expr_read.specs.PrintedTexts.{between, expr_text, is_int, is_named_field, is_named_type, is_spelled, is_spelled_ref, leaves_step, opening, sign_opening, text_step}

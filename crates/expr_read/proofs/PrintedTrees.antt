@@ -15,7 +15,7 @@ use Rattle.expr_read.specs.declared.tree.BinaryOp.TheVariants as binary
 use Rattle.expr_read.specs.declared.tree.Variable.{Variable}
 use Rattle.expr_read.specs.declared.tree.Variable.TheVariants as variables
 use Rattle.expr_read.specs.Fitting.{Fits, FitsExpr, FitsRef, operator_of, associates, MayGoOn}
-use Rattle.expr_read.specs.Grammar.{Ref, operand, expr, Syntax, two, has, lone, chain, stop, more, spell, spell_ref}
+use Rattle.expr_read.specs.Grammar.{Ref, operand, expr, Syntax, lone, chain, stop, more, spell, spell_ref}
 use Rattle.expr_read.specs.Meaning.{meaning, meaning_ref}
 use Rattle.expr_read.specs.Printing.{anywhere}
 use Rattle.expr_read.specs.PrintedTexts.{between, field_at, field_text, is_named_field, opening, type_name, variable_word}
