@@ -1,5 +1,5 @@
 -- What a reader answers, from what the machine does.
-use Rattle.std.proofs.Common.{ℕ, ◌≡◌, List, [], ◌∷◌, map, length, false, sym, ap, ◌∙◌, subst}
+use Rattle.std.proofs.Common.{ℕ, ◌≡◌, ◌≤◌, List, [], ◌∷◌, map, length, false, Some, sym, ap, ◌∙◌, subst}
 use Rattle.expr_tokens.specs.Tokens.{Token, Placed}
 use Rattle.expr_read.specs.declared.fault.ExprFault.{ExprFault}
 use Rattle.expr_read.specs.declared.fault.ExprCause.{ExprCause}

@@ -1,8 +1,9 @@
 -- Assigns and switches: the machine takes exactly the tokens of those that fit, and builds what they mean.
-use Rattle.std.proofs.Common.{ℕ, ◌≡◌, List, [], ◌∷◌, Bool, true, false, Option, Some, None, refl, sym, ap, ◌∙◌, subst}
+use Rattle.std.proofs.Common.{ℕ, ◌≡◌, List, [], ◌∷◌, ◌++◌, Bool, true, false, ◌↔◌, cond, Option, Some, None, refl, sym, ap, ◌∙◌, subst}
 use Rattle.ent_types.specs.declared.entity.TypeId.{TypeId}
 use Rattle.expr_tokens.specs.Tokens.{Token, word, number as numeral, sign, bad}
 use Rattle.expr_tokens.specs.declared.sign.Sign.TheVariants.{Dot, Assign as Becomes}
+use Rattle.expr_read.specs.declared.symbol.Symbol.{Symbol}
 use Rattle.expr_read.specs.declared.symbol.Symbol.TheVariants as wait
 use Rattle.expr_read.specs.declared.symbol.Action.TheVariants as act
 use Rattle.expr_read.specs.declared.symbol.Built.{Built}
@@ -10,7 +11,7 @@ use Rattle.expr_read.specs.declared.symbol.Built.TheVariants as built
 use Rattle.expr_read.specs.declared.words.FieldUse.TheVariants.{Assigned}
 use Rattle.expr_read.specs.declared.words.TypeUse.TheVariants.{Switched}
 use Rattle.expr_read.specs.Fitting.{FitsValue, FitsAssign, FitsSwitch}
-use Rattle.expr_read.specs.Grammar.{Ref, Value, int, ref, AssignText, SwitchText, spell, spell_ref, spell_value, spell_assign, spell_switch}
+use Rattle.expr_read.specs.Grammar.{Syntax, expr, Ref, Value, int, ref, AssignText, SwitchText, spell, spell_ref, spell_value, spell_assign, spell_switch}
 use Rattle.expr_read.specs.Meaning.{meaning, meaning_ref}
 use Rattle.expr_read.specs.Scopes.{Scope, IsLawful}
 use Rattle.expr_read.specs.Machine.{State, run, steps, settle, take, may_end, onward, and_then, map_some, kept, value_place}

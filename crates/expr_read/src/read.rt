@@ -1,5 +1,5 @@
 //! The tokens of a text, one after another.
-ghost use Rattle.std.specs.Prelude.{◌≡◌, ◌⊎◌, ◌<◌, [], ◌∷◌, None, Some, map, OnOk, IfErr, MatchResult};
+ghost use Rattle.std.specs.Prelude.{◌≡◌, ◌⊎◌, ◌≤◌, ◌<◌, ◌^◌, [], ◌∷◌, None, Some, length, map, OnOk, IfErr, MatchResult};
 ghost use Rattle.expr_tokens.specs.Seen.{seen, token_seen};
 ghost use Rattle.expr_read.specs.Machine.{settle, finish, run};
 ghost use Rattle.expr_read.specs.Reader.{Halts, Stops};
