@@ -18,9 +18,11 @@ mod Keeps
 mod NewNames
 mod Outcomes
 mod Prefixes
+pub mod PrintedExprs
+mod PrintedLeaves
 mod PrintedNames
 pub mod PrintedTokens
-pub mod PrintedTrees
+mod PrintedTrees
 pub mod Raised
 mod ReadExprs
 mod ReadRefs

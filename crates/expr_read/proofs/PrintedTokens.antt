@@ -1,12 +1,11 @@
 -- The tokens of a text that is put together from pieces, from its end on.
-use Rattle.std.proofs.Common.{ℕ, ◌≡◌, ◌+◌, ◌-◌, ◌*◌, ◌^◌, ◌<◌, ◌≤◌, List, [], ◌∷◌, ◌++◌, Bool, true, false, ◌||◌, cond, eqb, length, get_or, take, drop, map, Option, Some, None, refl, sym, ap, ◌∙◌, subst, arith, rules, add-zero, true≢false, min}
+use Rattle.std.proofs.Common.{ℕ, ◌≡◌, ◌+◌, ◌-◌, ◌*◌, ◌^◌, ◌<◌, List, [], ◌∷◌, ◌++◌, Bool, true, false, ◌||◌, cond, eqb, length, get_or, map, Option, Some, None, refl, sym, ap, ◌∙◌, subst, arith, rules, add-zero, true≢false, min}
 use Rattle.std.specs.Fmt.{decimal}
 use Rattle.std.specs.List.{fold, list_all}
 use Rattle.std.specs.Char.{is_ascii_digit}
 use Rattle.std.proofs.Math.Nat.{min-eq_left}
 use Rattle.std.proofs.Math.Seq.{take-append_seam, drop-append_seam}
 use Rattle.std.proofs.lemmas.Bool.{and_parts, ltb-true}
-use Rattle.std.proofs.lemmas.Bool.Decides.{nat_tests}
 use Rattle.std.proofs.lemmas.Fmt.{digits_decimal, digits_value-decimal, decimal_nonempty}
 use Rattle.std.proofs.lemmas.List.{get_or_append_left, get_or-append-add, length-append}
 use Rattle.std.proofs.lemmas.List.Elements.{All-get_or, All-nil}
@@ -18,7 +17,7 @@ use Rattle.expr_tokens.specs.declared.sign.Sign.{Sign}
 use Rattle.expr_tokens.specs.Tokens.{Token, word, number, sign, Placed, IsSpace, IsLongest, NoPair, Spans, AreTokens, number_value, pair_of, single_of, spelling}
 use Rattle.expr_tokens.specs.Tokens as tokens
 use Rattle.expr_tokens.specs.declared.sign.Sign.TheVariants as signs
-use Rattle.expr_tokens.proofs.Fronts.{IsRun, IsNoRun, longest_word, longest_number, longest_sign, longest_single, longest_pair, no_pair}
+use Rattle.expr_tokens.proofs.Fronts.{IsRun, longest_word, longest_number, longest_sign, longest_single, longest_pair, no_pair}
 use Rattle.expr_tokens.proofs.Signs.{first_byte, pair_sound, single_sound}
 use Rattle.expr_tokens.proofs.Texts.{after_space}
 

@@ -1,5 +1,5 @@
 -- The text that is printed for an expression: each operand of an operator stands in parentheses.
-use Rattle.std.specs.Prelude.{ℕ, ℤ, pos, ◌^◌, List, [], ◌++◌, Bool, true, false, not, ◌&&◌, nat_lt, length, slice_index_or, codes}
+use Rattle.std.specs.Prelude.{ℕ, ℤ, pos, ◌^◌, List, [], ◌++◌, Bool, true, false, ◌&&◌, nat_lt, length, slice_index_or, codes}
 use Rattle.std.specs.Fmt.{decimal, signed_decimal}
 use Rattle.ent_types.specs.declared.entity.TypeId.{TypeId}
 use Rattle.ent_types.specs.declared.kinds.FieldKind.TheVariants.{I32}
@@ -17,7 +17,7 @@ use Rattle.expr_read.specs.declared.tree.BinaryOp.{BinaryOp}
 use Rattle.expr_read.specs.declared.tree.BinaryOp.TheVariants as binary
 use Rattle.expr_read.specs.declared.tree.Variable.{Variable}
 use Rattle.expr_read.specs.declared.tree.Variable.TheVariants as variables
-use Rattle.expr_read.specs.ScopeOf.{is_known, is_ref_at}
+use Rattle.expr_read.specs.ScopeOf.{is_known}
 
 -- ---- pieces
 
@@ -122,23 +122,17 @@ is_natural _ = false
 abbrev pub is_field : List TypeInfo → TypeId → ℕ → Bool
 is_field types ty i = is_known types ty && nat_lt i (length (type_at types ty.0).fields)
 
-abbrev pub is_number_field : List TypeInfo → TypeId → ℕ → Bool
-is_number_field types ty i = is_field types ty i && not (is_ref_at types ty i)
-
-abbrev pub is_ref_field : List TypeInfo → TypeId → ℕ → Bool
-is_ref_field types ty i = is_field types ty i && is_ref_at types ty i
-
 -- the reference is no made name, and the registry has its field
 abbrev pub is_printable_ref : List TypeInfo → RefExpr → Bool
 is_printable_ref types refs.Null = true
 is_printable_ref types refs.Me = true
 is_printable_ref types (refs.Made k) = false
-is_printable_ref types (refs.Own ty i) = is_ref_field types ty i
+is_printable_ref types (refs.Own ty i) = is_field types ty i
 is_printable_ref types (refs.Entity e) = true
 
 -- the registry knows the types and fields, the numbers are at least 0, and no reference is a made name
 abbrev pub is_printable : List TypeInfo → Expr → Bool
-is_printable types = leaves_pass is_natural (is_number_field types) (is_printable_ref types) (is_known types)
+is_printable types = leaves_pass is_natural (is_field types) (is_printable_ref types) (is_known types)
 
 -- ---- what a printed expression also meets, since its numbers are of so many bits and its names are names
 
@@ -152,15 +146,12 @@ is_named_type types ty = is_known types ty && is_name (type_name types ty)
 abbrev pub is_named_field : List TypeInfo → TypeId → ℕ → Bool
 is_named_field types ty i = is_field types ty i && (is_name (type_name types ty) && is_name (field_at types ty i).name)
 
-abbrev pub is_named_number : List TypeInfo → TypeId → ℕ → Bool
-is_named_number types ty i = is_named_field types ty i && not (is_ref_at types ty i)
-
 abbrev pub is_spelled_ref : List TypeInfo → RefExpr → Bool
 is_spelled_ref types refs.Null = true
 is_spelled_ref types refs.Me = true
 is_spelled_ref types (refs.Made k) = false
-is_spelled_ref types (refs.Own ty i) = is_named_field types ty i && is_ref_at types ty i
+is_spelled_ref types (refs.Own ty i) = is_named_field types ty i
 is_spelled_ref types (refs.Entity e) = nat_lt e.index (2 ^ 32) && nat_lt e.version (2 ^ 32)
 
 abbrev pub is_spelled : List TypeInfo → Expr → Bool
-is_spelled types = leaves_pass is_int (is_named_number types) (is_spelled_ref types) (is_named_type types)
+is_spelled types = leaves_pass is_int (is_named_field types) (is_spelled_ref types) (is_named_type types)

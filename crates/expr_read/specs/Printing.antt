@@ -1,10 +1,9 @@
 -- What a text of an expression is where every name may stand at any place.
-use Rattle.std.specs.Prelude.{ℕ, ◌≡◌, List, [], Bool, true, ◌&&◌, map, codes, not, if◌then◌else◌, Option, Some, None}
-use Rattle.std.specs.List.{list_any}
+use Rattle.std.specs.Prelude.{ℕ, ◌≡◌, List, [], Bool, true, ◌&&◌, nat_lt, length, map, codes, not, if◌then◌else◌, Option, Some, None}
 use Rattle.ent_types.specs.declared.entity.TypeId.{TypeId}
 use Rattle.ent_types.specs.declared.type_info.TypeInfo.{TypeInfo}
 use Rattle.ent_types.specs.Registries.{type_id_named, type_at}
-use Rattle.ent_types.specs.Types.{same_name}
+use Rattle.ent_types.specs.Types.{field_named, same_name}
 use Rattle.expr_tokens.specs.Tokens.{Placed, AreTokens}
 use Rattle.expr_read.specs.declared.tree.Expr.{Expr}
 use Rattle.expr_read.specs.declared.tree.RefExpr.{RefExpr}
@@ -16,7 +15,7 @@ use Rattle.expr_read.specs.Fitting.{FitsExpr}
 use Rattle.expr_read.specs.Grammar.{Syntax, expr, spell}
 use Rattle.expr_read.specs.Meaning.{meaning}
 use Rattle.expr_read.specs.PrintedTexts.{is_printable}
-use Rattle.expr_read.specs.ScopeOf.{is_known, is_listed, is_new_name, is_ref_at, refs_of, some_type_from, suited_field, suits, system_call, system_variable}
+use Rattle.expr_read.specs.ScopeOf.{is_known, is_listed, is_new_name, is_ref_at, refs_of, some_type_from, system_call, system_variable}
 use Rattle.expr_read.specs.Scopes.{Scope}
 
 abbrev pub any_variable : List ℕ → Option Variable
@@ -28,9 +27,9 @@ any_reference made name =
     else if same_name name (codes "self") then Some Me
     else None
 
--- the place of the known type's field of this name, where it holds what is asked
+-- the place of the known type's field of this name, whatever it holds and is used for
 abbrev pub any_field : List TypeInfo → FieldUse → TypeId → List ℕ → Option ℕ
-any_field types role ty name = if is_known types ty then suited_field role (type_at types ty.0) name else None
+any_field types role ty name = if is_known types ty then field_named (type_at types ty.0) name else None
 
 -- `self`, every variable, every call and every type and field of the registry may stand at any place
 abbrev pub anywhere : List TypeInfo → Scope
@@ -41,7 +40,7 @@ anywhere types =
       reference = any_reference;
       find = type_id_named types;
       field = any_field types;
-      has_field = λ role ty. is_known types ty && list_any (λ f. suits role f.kind) (type_at types ty.0).fields;
+      has_field = λ role ty. is_known types ty && nat_lt 0 (length (type_at types ty.0).fields);
       allows = λ role ty. is_known types ty;
       has_type = λ role used. some_type_from (λ ty. is_known types ty && not (is_listed used ty)) 0 types;
       holds = is_listed;

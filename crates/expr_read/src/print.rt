@@ -15,7 +15,8 @@ use std::alloc::{AllocError, Global};
 use words::{between, opening, sign_opening, variable_word};
 
 /// A text whose tokens derive the expression by the grammar, where `self`, every variable, every call and every type
-/// and field of the registry may stand at any place. Its length and nesting have no limit here.
+/// and field of the registry may stand at any place, whatever the field holds. Its length and nesting have no limit
+/// here.
 ///
 /// The registry knows the types and fields of the expression, its numbers are at least 0, and no reference in it is a
 /// made name. Each operand of an operator stands in parentheses. This project's own.

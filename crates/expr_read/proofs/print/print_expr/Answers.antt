@@ -1,5 +1,5 @@
 use Rattle.std.proofs.Common.{rules}
-use Rattle.expr_read.proofs.PrintedTrees.{prints}
+use Rattle.expr_read.proofs.PrintedExprs.{prints}
 use Rattle.expr_read.proofs.print.print_expr.Goals as goal
 
 pub returns : goal.returns
