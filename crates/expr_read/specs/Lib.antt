@@ -1,3 +1,4 @@
+pub mod Answers
 pub mod ChainFronts
 pub mod Chains
 pub mod CommandScopes
