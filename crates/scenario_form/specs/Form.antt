@@ -209,6 +209,7 @@ read_whole registry frames ms =
       group = [];
       system = system;
       event = [];
+      placed = false;
     } in if is_whole s then Some s else None)
     (optional (codes "system") [] (list_between 0 256 (each_item (read_system registry))) ms))
     (optional (codes "spawn") [] (list_between 0 1024 (each_item (read_spawn registry))) ms)

@@ -98,6 +98,7 @@ fn read_whole(
         group: Sequence::new(alloc),
         system,
         event: Sequence::new(alloc),
+        placed: false,
     };
     if !is_whole(&scenario) {
         return Err(Refusal::NotBuilt);

@@ -1,5 +1,5 @@
 -- The faults of a scenario, what is read or its first fault, and what a reader answers.
-use Rattle.std.specs.Prelude.{ℕ, ◌≡◌, List, [], ◌∷◌, ◌++◌, codes, Option, None, Some, Result, Ok, Err, Bool, if◌then◌else◌}
+use Rattle.std.specs.Prelude.{ℕ, ◌≡◌, List, [], ◌∷◌, ◌++◌, drop, codes, Option, None, Some, Result, Ok, Err, Bool, if◌then◌else◌}
 use Rattle.std.specs.Fmt.{decimal}
 use Rattle.scenario_read.specs.declared.fault.Cause.{Cause}
 use Rattle.scenario_read.specs.declared.fault.BadScenario.{BadScenario}
@@ -29,6 +29,11 @@ under key (Err f) = Err (below_key key f)
 abbrev pub at_place : {A : Type 0} → ℕ → Reading A → Reading A
 at_place i (Ok x) = Ok x
 at_place i (Err f) = Err (below_place i f)
+
+-- a path begins with its first key, without the dot before it
+abbrev pub whole_path : {A : Type 0} → Reading A → Reading A
+whole_path (Ok x) = Ok x
+whole_path (Err f) = Err (record { cause = f.cause; key = drop 1 f.key; at = f.at })
 
 -- first the one, and then the other with what it gave
 abbrev pub and_then : {A B : Type 0} → (A → Reading B) → Reading A → Reading B

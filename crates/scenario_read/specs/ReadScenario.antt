@@ -1,7 +1,7 @@
 -- The scenario that the bytes of a file are, or its first fault.
-use Rattle.std.specs.Prelude.{ℕ, List, [], ◌∷◌, drop, codes, Option, None, Some, Ok, Err, if◌then◌else◌}
+use Rattle.std.specs.Prelude.{ℕ, Bool, false, ◌||◌, is_some, List, [], ◌∷◌, codes, Option, None, Some, Ok, Err, if◌then◌else◌}
 use Rattle.std.specs.Str.{is_utf8}
-use Rattle.toml.specs.Data.{Members}
+use Rattle.toml.specs.Data.{Data, array, table, Items, no_items, item, Members, get_member}
 use Rattle.toml.specs.Parse.{parse_document}
 use Rattle.ent_types.specs.declared.type_info.TypeInfo.{TypeInfo}
 use Rattle.ent_types.specs.Registries.{built_in_types}
@@ -10,7 +10,7 @@ use Rattle.scenario_read.specs.declared.fault.BadScenario.{BadScenario}
 use Rattle.scenario_read.specs.declared.record.Scenario.{Scenario}
 use Rattle.scenario_read.specs.declared.record.GroupEntry.{GroupEntry}
 use Rattle.scenario_read.specs.declared.whole.Numbers.{Numbers}
-use Rattle.scenario_read.specs.Faults.{Reading, bad, and_then, changed, unless}
+use Rattle.scenario_read.specs.Faults.{Reading, bad, and_then, changed, unless, whole_path}
 use Rattle.scenario_read.specs.ReadKeys.{unknown_key, required, optional, number, tables_up_to}
 use Rattle.scenario_read.specs.ReadTypes.{registry_of}
 use Rattle.scenario_read.specs.ReadSpawns.{spawn_table}
@@ -28,6 +28,29 @@ numbers ms =
     (optional (codes "first_system_version") 1 (number 1 4294967295) ms))
     (required (codes "frames") (number 0 100000) ms)
 
+-- ---- the keys that place groups and systems, of which `check` makes no plan yet
+
+abbrev pub has_key : List ℕ → Members → Bool
+has_key key ms = is_some (get_member key ms)
+
+abbrev pub places_one : Data → Bool
+places_one (table ms) =
+    has_key (codes "group") ms || (has_key (codes "before") ms || (has_key (codes "after") ms || (has_key (codes "first") ms || has_key (codes "last") ms)))
+places_one d = false
+
+abbrev pub places_any : Items → Bool
+places_any no_items = false
+places_any (item d ds) = places_one d || places_any ds
+
+abbrev pub places_in : Option Data → Bool
+places_in (Some (array ds)) = places_any ds
+places_in d = false
+
+abbrev pub is_placed : Members → Bool
+is_placed ms = has_key (codes "group") ms || places_in (get_member (codes "system") ms)
+
+-- ---- the whole
+
 -- the lists of tables over the types
 abbrev pub tables : Numbers → List TypeInfo → Members → Reading Scenario
 tables n registry ms =
@@ -43,6 +66,7 @@ tables n registry ms =
       group = group;
       system = system;
       event = event;
+      placed = is_placed ms;
     })
     (optional (codes "event") [] (tables_up_to 4096 (event_table registry)) ms))
     (optional (codes "system") [] (tables_up_to 256 (system_table registry)) ms))
@@ -64,11 +88,6 @@ top_table ms =
 -- the document that the bytes spell: a text of TOML in UTF-8
 abbrev pub document_of : List ℕ → Option Members
 document_of bytes = if is_utf8 bytes then parse_document bytes else None
-
--- a path begins with its first key, without the dot before it
-abbrev pub whole_path : Reading Scenario → Reading Scenario
-whole_path (Ok s) = Ok s
-whole_path (Err f) = Err (record { cause = f.cause; key = drop 1 f.key; at = f.at })
 
 abbrev pub read_document : Option Members → Reading Scenario
 read_document None = Err (bad NotToml)
