@@ -131,6 +131,7 @@ fn scenario(
         group: Sequence::new(alloc),
         system: Sequence::from_vec(systems),
         event: Sequence::new(alloc),
+        placed: false,
     })
 }
 

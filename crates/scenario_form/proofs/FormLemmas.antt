@@ -107,6 +107,7 @@ scenario_with registry frames spawn system = record {
   group = [];
   system = system;
   event = [];
+  placed = false;
 }
 
 abbrev whole_with : List TypeInfo → ℕ → List SpawnEntry → List SystemEntry → Option Scenario
