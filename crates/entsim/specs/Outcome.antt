@@ -8,7 +8,7 @@ use Rattle.ent_io.specs.declared.reading.Missing.{Missing}
 use Rattle.ent_io.specs.declared.reading.Missing.TheVariants.{Absent, TooLong}
 use Rattle.scenario_read.specs.declared.fault.BadScenario.{BadScenario}
 use Rattle.scenario_read.specs.declared.record.Scenario.{Scenario}
-use Rattle.scenario_read.specs.Reading.{scenario_of}
+use Rattle.scenario_form.specs.Reading.{scenario_of}
 use Rattle.plain_world.specs.Run.{world_after}
 use Rattle.plain_text.specs.Lines.{world_text}
 use Rattle.entsim.specs.ErrorLines.{missing_line, fault_line, unbuilt_line, words_line}

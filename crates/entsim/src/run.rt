@@ -1,7 +1,7 @@
 //! The command `run`: from the name of a file to the lines of the world after the frames.
 ghost use Rattle.std.specs.Prelude.{◌≡◌, Ok, IfSome};
 ghost use Rattle.ent_io.specs.End.{Causes};
-ghost use Rattle.scenario_read.specs.Formed.{IsOfForm};
+ghost use Rattle.scenario_form.specs.Formed.{IsOfForm};
 ghost use Rattle.entsim.specs.Headline.{Gives, Obeys};
 ghost use Rattle.entsim.specs.Outcome.{file_outcome, read_outcome, run_outcome};
 
@@ -9,7 +9,8 @@ use crate::refusal::{refuse_fault, refuse_missing};
 use ent_io::{End, Missing, ReadEnd, Sink, Status, Store, read_whole};
 use plain_text::write_world;
 use plain_world::run_scenario;
-use scenario_read::{Scenario, ScenarioFault, read_scenario};
+use scenario_form::read_form;
+use scenario_read::{Scenario, ScenarioFault};
 use std::alloc::Global;
 
 /// The most bytes of a scenario's file: 1 MiB. This project's own.
@@ -36,7 +37,7 @@ fn run_bytes<W: Sink>(alloc: Global, bytes: &[u8], out: &mut W) -> Result<Status
     ensures obeys { Obeys result }
     ensures causes { Causes result 0 0 (W.faults out.old) (W.faults out.new) }
 {
-    match read_scenario(alloc, bytes) {
+    match read_form(alloc, bytes) {
         Ok(scenario) => print_run(alloc, &scenario, out),
         Err(ScenarioFault::Bad(fault)) => refuse_fault(alloc, &fault, out),
         Err(ScenarioFault::Memory) => Err(End::Memory),

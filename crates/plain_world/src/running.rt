@@ -1,6 +1,6 @@
 //! The whole run of a scenario.
 ghost use Rattle.std.specs.Prelude.{◌≡◌, IfOk};
-ghost use Rattle.scenario_read.specs.Formed.{IsOfForm};
+ghost use Rattle.scenario_form.specs.Formed.{IsOfForm};
 ghost use Rattle.plain_world.specs.Run.{world_after};
 ghost use Rattle.plain_world.specs.Plain.{world_of, AreEven};
 

@@ -1,6 +1,6 @@
 //! Spawns over rows in columns, and a scenario run from its spawns to its end.
 ghost use Rattle.std.specs.Prelude.{◌≤◌, length, sum_by, All, IsTrue};
-ghost use Rattle.scenario_read.specs.Formed.{IsOfForm};
+ghost use Rattle.scenario_form.specs.Formed.{IsOfForm};
 
 use crate::tests::{COUNT, system};
 use crate::{PlainBlock, PlainWorld, run_scenario, spawn_all};
@@ -131,6 +131,7 @@ fn scenario(
         group: Sequence::new(alloc),
         system: Sequence::from_vec(systems),
         event: Sequence::new(alloc),
+        placed: false,
     })
 }
 

@@ -2,7 +2,7 @@
 ghost use Rattle.std.specs.Prelude.{◌≡◌, ◌+◌, ◌≤◌, ◌<◌, ◌^◌, length, sum_by, All, IfOk, OnOk};
 ghost use Rattle.std.specs.List.{fold};
 ghost use Rattle.world_model.specs.World.{capacity};
-ghost use Rattle.scenario_read.specs.Formed.{IsOfForm};
+ghost use Rattle.scenario_form.specs.Formed.{IsOfForm};
 ghost use Rattle.plain_world.specs.Run.{created, times, spawned_by, spawned};
 ghost use Rattle.plain_world.specs.Plain.{world_of, AreEven};
 ghost use Rattle.plain_world.specs.NewRows.{cells_in, types_of, AreFull, AreWide};

@@ -117,6 +117,7 @@ fn frames_raise_the_moment(rt: HostRuntime) -> Result<(), Fail> {
         group: Sequence::new(alloc),
         system: systems,
         event: Sequence::new(alloc),
+        placed: false,
     };
     raise(&mut world);
     assert_eq!(rt; world.moment, 2);

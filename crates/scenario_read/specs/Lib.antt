@@ -1,5 +1,11 @@
 pub mod Faults
-pub mod Form
-pub mod Formed
-pub mod Reading
-pub mod Reads
+pub mod ReadKeys
+pub mod ReadTypes
+pub mod ReadTypeLists
+pub mod ReadTexts
+pub mod ReadSpawns
+pub mod ReadGroups
+pub mod ReadCommands
+pub mod ReadSystems
+pub mod ReadEvents
+pub mod ReadScenario

@@ -1,20 +1,15 @@
 //! A scenario as it is read from a file: the record that stands for it, or the first fault.
 #![tactic(auto)]
 
+mod events;
 mod fault;
-mod keys;
-mod reader;
+mod groups;
 mod record;
-mod refusal;
-mod spawns;
 mod systems;
-#[cfg(test)]
-mod tests;
-mod types;
+mod type_lists;
 mod whole;
 
 pub use fault::{BadScenario, Cause, KeyPath, ScenarioFault};
-pub use reader::read_scenario;
 pub use record::{
     CommandEntry, EventAct, EventEntry, FileName, GroupEntry, Scenario, SpawnEntry, SystemEntry,
 };

@@ -21,6 +21,8 @@ pub struct Scenario {
     pub system: Sequence<SystemEntry>,
     /// The events, in order.
     pub event: Sequence<EventEntry>,
+    /// Whether some key places a group or a system among its siblings, of which no plan is made yet.
+    pub placed: bool,
 }
 
 /// Rows that are made before the first frame.

@@ -1,0 +1,4 @@
+pub mod Form
+pub mod Formed
+pub mod Reading
+pub mod Reads
