@@ -1,5 +1,5 @@
 -- What the program writes and the status it ends with, for any words and files.
-use Rattle.std.specs.Prelude.{ℕ, ◌++◌, List, [], codes, Bool, true, false, Option, None, Some, Result, Ok, Err}
+use Rattle.std.specs.Prelude.{ℕ, ◌==◌, ◌&&◌, not, if◌then◌else◌, List, Bool, true, Option, None, Some, Result, Ok, Err}
 use Rattle.ent_io.specs.Files.{Files}
 use Rattle.ent_io.specs.Store.{whole_of}
 use Rattle.ent_io.specs.declared.end.Status.{Status}
@@ -8,7 +8,8 @@ use Rattle.ent_io.specs.declared.reading.Missing.{Missing}
 use Rattle.ent_io.specs.declared.reading.Missing.TheVariants.{Absent, TooLong}
 use Rattle.scenario_read.specs.declared.fault.BadScenario.{BadScenario}
 use Rattle.scenario_read.specs.declared.record.Scenario.{Scenario}
-use Rattle.scenario_form.specs.Reading.{scenario_of}
+use Rattle.scenario_read.specs.ReadScenario.{scenario_of}
+use Rattle.scenario_form.specs.Reading.{scenario_of as form_of}
 use Rattle.plain_world.specs.Run.{world_after}
 use Rattle.plain_text.specs.Lines.{world_text}
 use Rattle.entsim.specs.ErrorLines.{missing_line, fault_line, unbuilt_line, words_line}
@@ -27,13 +28,19 @@ refused line = record { text = line; status = Refused }
 unfoldable pub run_outcome : Scenario → Outcome
 run_outcome s = record { text = world_text s.registry s.frames (world_after s); status = Done }
 
-abbrev pub scenario_outcome : Result Scenario BadScenario → Outcome
-scenario_outcome (Ok s) = run_outcome s
-scenario_outcome (Err fault) = refused (fault_line fault)
+-- of the scenarios without a fault, those of the first form are run
+abbrev pub form_outcome : Result Scenario BadScenario → Outcome
+form_outcome (Ok s) = run_outcome s
+form_outcome (Err fault) = refused (fault_line fault)
+
+-- a scenario at fault is refused
+abbrev pub scenario_outcome : List ℕ → Result Scenario BadScenario → Outcome
+scenario_outcome bytes (Ok s) = form_outcome (form_of bytes)
+scenario_outcome bytes (Err fault) = refused (fault_line fault)
 
 -- the run of what was read: at most 1 MiB
 abbrev pub read_outcome : Result (List ℕ) Missing → Outcome
-read_outcome (Ok bytes) = scenario_outcome (scenario_of bytes)
+read_outcome (Ok bytes) = scenario_outcome bytes (scenario_of bytes)
 read_outcome (Err missing) = refused (missing_line missing)
 
 abbrev pub file_outcome : Option (List ℕ) → Outcome
@@ -43,11 +50,14 @@ file_outcome file = read_outcome (whole_of 1048576 file)
 abbrev pub unbuilt : Outcome
 unbuilt = refused unbuilt_line
 
--- the run of a file without options is built
+-- one worker, as where none are named
+abbrev pub is_alone : Option ℕ → Bool
+is_alone None = true
+is_alone (Some n) = n == 1
+
+-- the run of a file with one worker and without a trace is built
 abbrev pub command_outcome : Files → Command → Outcome
-command_outcome files (run file None false) = file_outcome (files file)
-command_outcome files (run file None true) = unbuilt
-command_outcome files (run file (Some workers) trace) = unbuilt
+command_outcome files (run file workers trace) = if is_alone workers && not trace then file_outcome (files file) else unbuilt
 command_outcome files (check file) = unbuilt
 command_outcome files (layout file) = unbuilt
 command_outcome files (plan file) = unbuilt

@@ -62,7 +62,7 @@ const NO_COMMANDS: [&[&str]; 3] = [&[], &["run"], &["check", "-"]];
 
 const UNBUILT: [&[&str]; 4] = [
     &["run", "scenario", "--trace"],
-    &["run", "scenario", "--workers", "1"],
+    &["run", "scenario", "--workers", "2"],
     &["check", "scenario"],
     &["make", "7"],
 ];
@@ -102,12 +102,14 @@ fn runs_a_scenario(rt: HostRuntime) -> Result<(), Fail> {
         reads: &[],
         writes: &[],
     };
-    let (status, text) = ended(&rt, rt.alloc(), RUN, &outside)?;
-    assert_eq!(rt; status, Status::Done);
-    assert_eq!(rt;
-        text.as_slice(),
-        b"world frames=2 entities=1\n0:1 Position(2,4) Velocity(1,2)\n".as_slice()
-    );
+    for words in [RUN, &["run", "scenario", "--workers", "1"]] {
+        let (status, text) = ended(&rt, rt.alloc(), words, &outside)?;
+        assert_eq!(rt; status, Status::Done);
+        assert_eq!(rt;
+            text.as_slice(),
+            b"world frames=2 entities=1\n0:1 Position(2,4) Velocity(1,2)\n".as_slice()
+        );
+    }
     Ok(())
 }
 
@@ -143,7 +145,7 @@ fn tells_a_failed_write(rt: HostRuntime) -> Result<(), Fail> {
 }
 
 // Files that are refused, and the cause.
-const REFUSED: [(Option<&[u8]>, &[u8]); 7] = [
+const REFUSED: [(Option<&[u8]>, &[u8]); 11] = [
     (None, b"error scenario cause=Absent\n"),
     (Some(b"frames ="), b"error scenario cause=NotToml\n"),
     (Some(b"\xff"), b"error scenario cause=NotToml\n"),
@@ -151,13 +153,38 @@ const REFUSED: [(Option<&[u8]>, &[u8]); 7] = [
         Some(b"frames = -1\nx = ["),
         b"error scenario cause=NotToml\n",
     ),
-    (Some(b""), b"error scenario cause=NotBuilt\n"),
+    (Some(b""), b"error scenario cause=Missing key=frames\n"),
     (
         Some(b"frames = 100001\n"),
-        b"error scenario cause=NotBuilt\n",
+        b"error scenario cause=NumberRange key=frames\n",
+    ),
+    (
+        Some(b"frames = 1\nextra = 1\n"),
+        b"error scenario cause=UnknownKey key=extra\n",
+    ),
+    (
+        Some(br#"frames = 1
+type = [{ name = "P", fields = ["v:i32"] }]
+system = [{ name = "S", all = ["P"], set = ["P.v = P.v +"] }]
+"#),
+        b"error scenario cause=Unexpected key=system[0].set[0] at=11\n",
+    ),
+    (
+        Some(br#"frames = 1
+type = [{ name = "P", fields = ["v:i32"] }]
+system = [{ name = "S", all = ["P"], set = ["P.v = 1", "P.v = P.w"] }]
+"#),
+        b"error scenario cause=UnknownName key=system[0].set[1] at=8\n",
     ),
     (
         Some(b"frames = 1\nevent = []\n"),
+        b"error scenario cause=NotBuilt\n",
+    ),
+    (
+        Some(br#"frames = 1
+type = [{ name = "P", fields = ["v:i32"] }]
+system = [{ name = "S", all = ["P"], set = ["P.v = P.v * 2"] }]
+"#),
         b"error scenario cause=NotBuilt\n",
     ),
 ];

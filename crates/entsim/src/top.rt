@@ -3,7 +3,7 @@ ghost use Rattle.std.specs.Prelude.{◌≡◌, map, string_bytes, IfSome};
 ghost use Rattle.ent_io.specs.End.{Causes};
 ghost use Rattle.ent_io.specs.Status.{StatusCauses};
 ghost use Rattle.entsim.specs.Words.{run, command_of, command_view};
-ghost use Rattle.entsim.specs.Outcome.{command_outcome, outcome, words_outcome};
+ghost use Rattle.entsim.specs.Outcome.{command_outcome, is_alone, outcome, words_outcome};
 ghost use Rattle.entsim.specs.Headline.{Gives, Ends, EndsWhole, Obeys, WordsDecide, AnswersWords};
 
 use crate::refusal::{refuse_unbuilt, refuse_words};
@@ -89,7 +89,17 @@ fn obey<S: Store, W: Sink>(
     }
 }
 
-/// Runs a scenario. The options aren't built yet.
+/// Says whether one worker is asked for, as where none are named.
+fn is_alone(workers: Option<u32>) -> bool
+    ensures { result ≡ is_alone workers }
+{
+    match workers {
+        None => true,
+        Some(n) => n == 1,
+    }
+}
+
+/// Runs a scenario. More workers than one and the trace aren't built yet.
 fn obey_run<S: Store, W: Sink>(
     alloc: Global,
     file: &str,
@@ -103,7 +113,10 @@ fn obey_run<S: Store, W: Sink>(
     ensures causes { Causes result (S.faults store.old) (S.faults store.new) (W.faults out.old) (W.faults out.new) }
     ensures files { S.files store.new ≡ S.files store.old }
 {
-    if workers.is_some() || trace {
+    if !is_alone(workers) {
+        return refuse_unbuilt(out);
+    }
+    if trace {
         return refuse_unbuilt(out);
     }
     run_file(alloc, file, store, out)

@@ -31,9 +31,12 @@ at_place i (Ok x) = Ok x
 at_place i (Err f) = Err (below_place i f)
 
 -- a path begins with its first key, without the dot before it
+abbrev pub whole_fault : BadScenario → BadScenario
+whole_fault f = record { cause = f.cause; key = drop 1 f.key; at = f.at }
+
 abbrev pub whole_path : {A : Type 0} → Reading A → Reading A
 whole_path (Ok x) = Ok x
-whole_path (Err f) = Err (record { cause = f.cause; key = drop 1 f.key; at = f.at })
+whole_path (Err f) = Err (whole_fault f)
 
 -- first the one, and then the other with what it gave
 abbrev pub and_then : {A B : Type 0} → (A → Reading B) → Reading A → Reading B
@@ -75,3 +78,22 @@ abbrev pub Passes : {A : Type 0} → Option BadScenario → Result A ScenarioFau
 Passes meant (Ok x) = meant ≡ None
 Passes meant (Err (Bad b)) = meant ≡ Some b
 Passes meant (Err Memory) = Unit {0}
+
+-- the same, where what was read stands for this
+abbrev pub AnswersAs : {A B : Type 0} → (A → B) → Reading B → Result A ScenarioFault → Type 0
+AnswersAs value meant (Ok x) = meant ≡ Ok (value x)
+AnswersAs value meant (Err fault) = IsDue meant fault
+
+-- the second fault is the first one, seen from further out; want of memory is free
+abbrev pub IsMoved : (BadScenario → BadScenario) → ScenarioFault → ScenarioFault → Type 0
+IsMoved step (Bad b) (Bad f) = f ≡ step b
+IsMoved step Memory (Bad f) = ⊥
+IsMoved step (Bad b) Memory = Unit {0}
+IsMoved step Memory Memory = Unit {0}
+
+-- the second answer is the first one, its fault seen from further out
+abbrev pub IsSeen : {A : Type 0} → (BadScenario → BadScenario) → Result A ScenarioFault → Result A ScenarioFault → Type 0
+IsSeen step (Ok x) (Ok y) = x ≡ y
+IsSeen step (Ok x) (Err g) = ⊥
+IsSeen step (Err f) (Ok y) = ⊥
+IsSeen step (Err f) (Err g) = IsMoved step f g

@@ -9,3 +9,4 @@ pub mod ReadCommands
 pub mod ReadSystems
 pub mod ReadEvents
 pub mod ReadScenario
+pub mod Fits

@@ -39,7 +39,7 @@ event_values registry ms =
 -- to have `as`; `delay` is 1 where it is left out.
 abbrev pub load_act : List ℕ → Option (List ℕ) → Option ℕ → Reading EventAct
 load_act file None delay = Err (record { cause = Missing; key = codes ".as"; at = None })
-load_act file (Some label) delay = Ok (Load file label (unwrap_or 1 delay))
+load_act file (Some label) delay = Ok (Load file label (unwrap_or delay 1))
 
 abbrev pub lone_act : Option (List ℕ) → Option ℕ → EventAct → Reading EventAct
 lone_act None None act = Ok act

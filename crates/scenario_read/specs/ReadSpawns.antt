@@ -1,6 +1,5 @@
 -- The table of a spawn: `count`, `with`, `disabled`.
-use Rattle.std.specs.Prelude.{ℕ, ◌+◌, Bool, not, ◌&&◌, ◌==◌, if◌then◌else◌, List, [], ◌∷◌, length, map, codes, Option, None, Some, Ok, Err}
-use Rattle.std.specs.List.{list_any}
+use Rattle.std.specs.Prelude.{ℕ, ◌+◌, Bool, not, ◌&&◌, ◌==◌, if◌then◌else◌, List, [], ◌∷◌, length, fold, codes, Option, None, Some, Ok, Err}
 use Rattle.toml.specs.Data.{Data, string, integer, Items, no_items, item, Members, no_members, member}
 use Rattle.ent_types.specs.declared.kinds.FieldKind.{FieldKind}
 use Rattle.ent_types.specs.declared.kinds.FieldKind.TheVariants.{I32, I64, Ref as RefKind}
@@ -9,6 +8,7 @@ use Rattle.ent_types.specs.declared.type_info.TypeInfo.{TypeInfo}
 use Rattle.ent_types.specs.declared.value.Value.TheVariants.{Int}
 use Rattle.ent_types.specs.Fitting.{fits_field}
 use Rattle.ent_types.specs.Registries.{type_at}
+use Rattle.ent_types.specs.TypeSets.{has_type, with_type}
 use Rattle.expr_read.specs.declared.tree.Expr.TheVariants.{Number}
 use Rattle.expr_read.specs.declared.tree.ValueExpr.{ValueExpr}
 use Rattle.expr_read.specs.declared.tree.ValueExpr.TheVariants.{Int as IntExpr, Ref as RefExpr}
@@ -70,16 +70,17 @@ with_table registry d = and_then (parts_of registry) (members d)
 
 -- ---- `disabled`
 
-abbrev pub has_part : List PartExpr → ℕ → Bool
-has_part parts ty = list_any (λ p. p.ty.0 == ty) parts
+-- the types of the parts
+abbrev pub part_types : List PartExpr → List ℕ
+part_types parts = fold (λ set p. with_type set p.ty.0) [] parts
 
 -- an enableable type of `with`
-abbrev pub may_be_off : List TypeInfo → List PartExpr → ℕ → Bool
-may_be_off registry parts ty = has_part parts ty && (type_at registry ty).enableable
+abbrev pub may_be_off : List TypeInfo → List ℕ → ℕ → Bool
+may_be_off registry types ty = has_type types ty && (type_at registry ty).enableable
 
 abbrev pub off_types : List TypeInfo → List PartExpr → Data → Reading (List ℕ)
 off_types registry parts d =
-    changed (λ n. n.found) (and_then (types_from registry (may_be_off registry parts) (beside []) 0) (list d))
+    changed (λ n. n.found) (and_then (types_from registry (may_be_off registry (part_types parts)) (beside []) 0) (list d))
 
 -- ---- the table
 

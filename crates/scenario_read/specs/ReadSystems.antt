@@ -25,7 +25,7 @@ use Rattle.scenario_read.specs.Faults.{Reading, bad, under, at_place, and_then, 
 use Rattle.scenario_read.specs.ReadKeys.{unknown_key, required, optional, truth, number, name, list, members_up_to, each_up_to, item_count}
 use Rattle.scenario_read.specs.ReadTexts.{system_assign, system_switch}
 use Rattle.scenario_read.specs.ReadTypeLists.{type_of_key, type_list, beside}
-use Rattle.scenario_read.specs.ReadGroups.{placement, in_two_bands, default_group}
+use Rattle.scenario_read.specs.ReadGroups.{placement, default_group}
 use Rattle.scenario_read.specs.ReadCommands.{command_list}
 
 -- ---- the five clauses, which name no type twice between them
@@ -150,8 +150,9 @@ system_of n group p every c f a = record {
   command = a.command;
 }
 
-abbrev pub shaped_system : Placement → SystemEntry → Reading SystemEntry
-shaped_system p s = unless (fault_if (in_two_bands p) BadShape) (Ok s)
+-- a system can't be both first and last
+abbrev pub shaped_system : SystemEntry → Reading SystemEntry
+shaped_system s = unless (fault_if (s.first && s.last) BadShape) (Ok s)
 
 abbrev pub system_keys : List TypeInfo → Members → Reading SystemEntry
 system_keys registry ms =
@@ -161,7 +162,7 @@ system_keys registry ms =
     and_then (λ every.
     and_then (λ c.
     and_then (λ f.
-    and_then (λ a. shaped_system p (system_of n group p every c f a))
+    and_then (λ a. shaped_system (system_of n group p every c f a))
     (acts registry (bound_types c) ms))
     (filters registry c.all ms))
     (clauses registry ms))

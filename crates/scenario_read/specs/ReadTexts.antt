@@ -1,5 +1,5 @@
 -- The texts of a scenario. A text at fault is so by its own cause, at the place of its token at fault.
-use Rattle.std.specs.Prelude.{ℕ, List, [], Option, Some, Result, Ok, Err}
+use Rattle.std.specs.Prelude.{ℕ, ◌≡◌, List, [], Option, Some, Result, Ok, Err}
 use Rattle.toml.specs.Data.{Data}
 use Rattle.ent_types.specs.declared.type_info.TypeInfo.{TypeInfo}
 use Rattle.expr_read.specs.declared.fault.ExprCause.{ExprCause}
@@ -18,6 +18,8 @@ use Rattle.expr_read.specs.Answers.{expr_answer, ref_answer, assign_answer, swit
 use Rattle.scenario_read.specs.declared.fault.Cause.{Cause}
 use Rattle.scenario_read.specs.declared.fault.Cause.TheVariants.{TooLong, BadChar, NumberRange, TooDeep, UnknownName, Unexpected}
 use Rattle.scenario_read.specs.declared.fault.BadScenario.{BadScenario}
+use Rattle.scenario_read.specs.declared.fault.ScenarioFault.{ScenarioFault}
+use Rattle.scenario_read.specs.declared.fault.ScenarioFault.TheVariants.{Bad, Memory}
 use Rattle.scenario_read.specs.Faults.{Reading, and_then}
 use Rattle.scenario_read.specs.ReadKeys.{text}
 
@@ -37,6 +39,11 @@ text_fault f = record { cause = text_cause f.cause; key = []; at = Some f.at }
 abbrev pub told : {A : Type 0} → Result A ExprFault → Reading A
 told (Ok x) = Ok x
 told (Err f) = Err (text_fault f)
+
+-- the fault of a scenario that stands for one of a text
+abbrev pub IsTold : ExprCause → ℕ → ScenarioFault → Type 0
+IsTold texts.Memory at fault = fault ≡ Memory
+IsTold cause at fault = fault ≡ Bad (record { cause = text_cause cause; key = []; at = Some at })
 
 -- ---- the texts of a system, whose rows have the bound types
 
