@@ -2,9 +2,7 @@
 //!
 //! The table `texts.tsv` of the current folder has texts, each with the answer that its reader must give, worked out by
 //! an independent program. Of a text that is in the language the table knows only that it is. The program reads each
-//! text where the table puts it, prints a line for each answer that isn't the expected one, and then the numbers. There
-//! is no reader of commands yet, so the cases of commands are counted and passed over: `reading::read` is the place for
-//! it.
+//! text where the table puts it, prints a line for each answer that isn't the expected one, and then the numbers.
 //!
 //! The status is 0 where all is as expected, 1 where something isn't, and 2 where the table can't be read.
 #![tactic(auto)]
@@ -54,21 +52,14 @@ fn report(rt: &impl Print, outcomes: &[Outcome]) -> io::Result<bool> {
             println!(rt; "line {line}: wanted {wanted}, read {read}")?;
         }
     }
-    let passed_over = count(outcomes, Outcome::PassedOver);
-    let met = count(outcomes, Outcome::AsExpected);
+    let met = outcomes
+        .iter()
+        .filter(|outcome| matches!(outcome, Outcome::AsExpected))
+        .count();
     let missed = outcomes
         .iter()
         .filter(|outcome| matches!(outcome, Outcome::Otherwise { .. }))
         .count();
-    println!(rt; "commands passed over: {passed_over}")?;
     println!(rt; "texts: {met} as expected, {missed} not")?;
     Ok(missed == 0)
-}
-
-/// The number of times that a case came out so.
-fn count(outcomes: &[Outcome], wanted: Outcome) -> usize {
-    outcomes
-        .iter()
-        .filter(|outcome| **outcome == wanted)
-        .count()
 }

@@ -1,5 +1,5 @@
 //! A table of cases, tried line by line.
-ghost use Rattle.std.specs.Prelude.{◌≡◌, ◌↔◌, Some, IsNone};
+ghost use Rattle.std.specs.Prelude.{◌≡◌, ◌↔◌};
 
 use crate::answer::Answer;
 use crate::case::read_case;
@@ -24,8 +24,6 @@ pub enum Outcome {
         /// The answer that came.
         read: Answer,
     },
-    /// There is no reader for the case yet.
-    PassedOver,
 }
 
 /// How each case of a table came out, in order; or the first line that isn't taken.
@@ -85,13 +83,12 @@ fn try_case(
 }
 
 /// How a case comes out, by the answer that is expected and the one that came.
-fn compare(line: usize, wanted: Answer, read: Option<Answer>) -> Outcome
-    ensures passed_over { (result ≡ Outcome.PassedOver) ↔ IsNone read }
-    ensures as_expected { (result ≡ Outcome.AsExpected) ↔ (read ≡ Some wanted) }
+fn compare(line: usize, wanted: Answer, read: Answer) -> Outcome
+    ensures as_expected { (result ≡ Outcome.AsExpected) ↔ (read ≡ wanted) }
 {
-    match read {
-        None => Outcome::PassedOver,
-        Some(read) if read == wanted => Outcome::AsExpected,
-        Some(read) => Outcome::Otherwise { line, wanted, read },
+    if read == wanted {
+        Outcome::AsExpected
+    } else {
+        Outcome::Otherwise { line, wanted, read }
     }
 }
