@@ -10,4 +10,4 @@ pub returns-in-Switch : goal.returns-in-Switch
 returns-in-Switch c =
     let s = scope_of c.args.scope.now.registry.now c.args.scope.now.place c.args.scope.now.bound.now c.args.scope.now.made.now in
     subst (λ (sort : Sort). Claims s sort c.args.text.now c.told-in-Switch.result) (sym c.in-Switch.is)
-    (claimed (switches s) c.args.text.now c.read_switch.result c.told-in-Switch.result c.read_switch.ensures c.told-in-Switch.ensures)
+    (claimed (switches s) c.args.text.now c.read_switch.result c.told-in-Switch.result c.read_switch.ensures.reads c.told-in-Switch.ensures)
