@@ -163,17 +163,21 @@ const REFUSED: [(Option<&[u8]>, &[u8]); 11] = [
         b"error scenario cause=UnknownKey key=extra\n",
     ),
     (
-        Some(br#"frames = 1
+        Some(
+            br#"frames = 1
 type = [{ name = "P", fields = ["v:i32"] }]
 system = [{ name = "S", all = ["P"], set = ["P.v = P.v +"] }]
-"#),
+"#,
+        ),
         b"error scenario cause=Unexpected key=system[0].set[0] at=11\n",
     ),
     (
-        Some(br#"frames = 1
+        Some(
+            br#"frames = 1
 type = [{ name = "P", fields = ["v:i32"] }]
 system = [{ name = "S", all = ["P"], set = ["P.v = 1", "P.v = P.w"] }]
-"#),
+"#,
+        ),
         b"error scenario cause=UnknownName key=system[0].set[1] at=8\n",
     ),
     (
@@ -181,10 +185,12 @@ system = [{ name = "S", all = ["P"], set = ["P.v = 1", "P.v = P.w"] }]
         b"error scenario cause=NotBuilt\n",
     ),
     (
-        Some(br#"frames = 1
+        Some(
+            br#"frames = 1
 type = [{ name = "P", fields = ["v:i32"] }]
 system = [{ name = "S", all = ["P"], set = ["P.v = P.v * 2"] }]
-"#),
+"#,
+        ),
         b"error scenario cause=NotBuilt\n",
     ),
 ];

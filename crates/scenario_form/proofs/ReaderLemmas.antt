@@ -39,5 +39,5 @@ form_from_answer bytes (Err fault) is = tt
 pub answer_to : (bytes text : List ℕ) (r : Result Scenario ScenarioFault) → text ≡ bytes → IsUtf8 bytes → Answers (read_document (parse_document text)) r → Answers (scenario_of bytes) r
 answer_to bytes text r same utf8 is = subst (λ (meant : Result Scenario BadScenario). Answers meant r) (sym (scenario_of-text bytes text same utf8)) is
 
-pub due_no_text : (bytes : List ℕ) (fault : ScenarioFault) → (IsUtf8 bytes → ⊥) → Answers (Err (whole_fault NotToml)) (Err fault) → IsDue (scenario_of bytes) fault
+pub due_no_text : (bytes : List ℕ) (fault : ScenarioFault) → (IsUtf8 bytes → ⊥) → Answers {A = Scenario} (Err (whole_fault NotToml)) (Err fault) → IsDue (scenario_of bytes) fault
 due_no_text bytes fault other is = subst (λ (meant : Result Scenario BadScenario). IsDue meant fault) (sym (scenario_of-no_text bytes other)) is

@@ -8,11 +8,10 @@ ghost use Rattle.scenario_form.specs.Formed.{IsOfForm};
 ghost use Rattle.scenario_form.specs.Reading.{whole_fault, formed, read_document, scenario_of};
 ghost use Rattle.scenario_read.specs.Faults.{IsDue, Answers};
 
-use scenario_read::{BadScenario, Cause, ScenarioFault};
-use scenario_read::Scenario;
 use crate::refusal::Refusal;
 use crate::whole::scenario_form;
 use ent_types::Sequence;
+use scenario_read::{BadScenario, Cause, Scenario, ScenarioFault};
 use std::alloc::Global;
 use toml::Table;
 

@@ -9,10 +9,10 @@ ghost use Rattle.scenario_form.specs.Form.{optional, each_item, list_between, nu
 ghost use Rattle.scenario_form.specs.Reads.{Reads, number_in};
 
 use crate::keys::{elements, list_in, number_between, only_keys, table_in, value_of};
-use scenario_read::SpawnEntry;
 use crate::refusal::Refusal;
 use ent_types::{FieldInfo, FieldKind, Registry, Sequence, TypeId, TypeSet};
 use expr_read::{Expr, PartExpr, ValueExpr};
+use scenario_read::SpawnEntry;
 use std::alloc::Global;
 use toml::{Table, Value};
 

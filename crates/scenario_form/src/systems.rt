@@ -6,11 +6,11 @@ ghost use Rattle.scenario_form.specs.Form.{optional, each_item, list_between, de
 ghost use Rattle.scenario_form.specs.Reads.{Reads};
 
 use crate::keys::{elements, list_in, name_of, only_keys, table_in, text_in, value_of};
-use scenario_read::SystemEntry;
 use crate::refusal::Refusal;
 use crate::spawns::declared;
 use ent_types::{Name, Registry, Sequence, TypeId, TypeSet};
 use expr_read::{Assign, read_chain};
+use scenario_read::SystemEntry;
 use std::alloc::Global;
 use toml::{Table, Value};
 

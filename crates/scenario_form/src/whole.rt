@@ -7,12 +7,12 @@ ghost use Rattle.scenario_form.specs.Form.{required, number_between, root_groups
 ghost use Rattle.scenario_form.specs.Reads.{Reads};
 
 use crate::keys::{number_between, only_keys, value_of};
-use scenario_read::{Scenario, SpawnEntry, SystemEntry};
 use crate::refusal::Refusal;
 use crate::spawns::{MOST_ENTITIES, spawns_of};
 use crate::systems::systems_of;
 use crate::types::registry_of;
 use ent_types::{Registry, Sequence};
+use scenario_read::{Scenario, SpawnEntry, SystemEntry};
 use std::alloc::Global;
 use toml::Table;
 

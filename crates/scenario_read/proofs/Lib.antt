@@ -1,5 +1,6 @@
 pub mod KeyLemmas
 pub mod ListLemmas
+pub mod PartLemmas
+pub mod ReaderLemmas
 pub mod SharedLemmas
-pub mod TextLemmas
 pub mod TypeLemmas

@@ -10,7 +10,7 @@ use Rattle.scenario_read.specs.declared.record.EventEntry.{EventEntry}
 use Rattle.scenario_read.specs.declared.record.EventAct.{EventAct}
 use Rattle.scenario_read.specs.declared.record.EventAct.TheVariants.{Operate, Load, Unload}
 use Rattle.scenario_read.specs.Faults.{Reading, bad, under, and_then, changed, unless, fault_if}
-use Rattle.scenario_read.specs.ReadKeys.{unknown_key, required, perhaps, number, text, name}
+use Rattle.scenario_read.specs.ReadKeys.{unknown_key, required, perhaps, number, text, name, members}
 use Rattle.scenario_read.specs.ReadTexts.{event_command}
 
 -- a file name of 1 to 255 bytes
@@ -58,3 +58,7 @@ unfoldable pub event_table : List TypeInfo → Members → Reading EventEntry
 event_table registry ms =
     unless (unknown_key (codes "frame" ∷ codes "do" ∷ codes "load" ∷ codes "as" ∷ codes "delay" ∷ codes "unload" ∷ []) ms)
     (and_then event_of (event_values registry ms))
+
+-- an element of the list
+unfoldable pub event_item : List TypeInfo → Data → Reading EventEntry
+event_item registry d = and_then (event_table registry) (members d)

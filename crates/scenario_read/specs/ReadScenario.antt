@@ -11,12 +11,12 @@ use Rattle.scenario_read.specs.declared.record.Scenario.{Scenario}
 use Rattle.scenario_read.specs.declared.record.GroupEntry.{GroupEntry}
 use Rattle.scenario_read.specs.declared.whole.Numbers.{Numbers}
 use Rattle.scenario_read.specs.Faults.{Reading, bad, and_then, changed, unless, whole_path}
-use Rattle.scenario_read.specs.ReadKeys.{unknown_key, required, optional, number, tables_up_to}
+use Rattle.scenario_read.specs.ReadKeys.{unknown_key, required, optional, number, each_up_to, tables_up_to}
 use Rattle.scenario_read.specs.ReadTypes.{registry_of}
-use Rattle.scenario_read.specs.ReadSpawns.{spawn_table}
+use Rattle.scenario_read.specs.ReadSpawns.{spawn_item}
 use Rattle.scenario_read.specs.ReadGroups.{group_table}
-use Rattle.scenario_read.specs.ReadSystems.{system_table}
-use Rattle.scenario_read.specs.ReadEvents.{event_table}
+use Rattle.scenario_read.specs.ReadSystems.{system_item}
+use Rattle.scenario_read.specs.ReadEvents.{event_item}
 
 -- `frames`, `first_system_version`, `first_entity_version`
 abbrev pub numbers : Members → Reading Numbers
@@ -68,10 +68,10 @@ tables n registry ms =
       event = event;
       placed = is_placed ms;
     })
-    (optional (codes "event") [] (tables_up_to 4096 (event_table registry)) ms))
-    (optional (codes "system") [] (tables_up_to 256 (system_table registry)) ms))
+    (optional (codes "event") [] (each_up_to 4096 (event_item registry)) ms))
+    (optional (codes "system") [] (each_up_to 256 (system_item registry)) ms))
     (optional (codes "group") [] (tables_up_to 64 group_table) ms))
-    (optional (codes "spawn") [] (tables_up_to 1024 (spawn_table registry)) ms)
+    (optional (codes "spawn") [] (each_up_to 1024 (spawn_item registry)) ms)
 
 abbrev pub top_keys : Members → Reading Scenario
 top_keys ms =

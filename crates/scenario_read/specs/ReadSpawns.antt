@@ -94,3 +94,7 @@ spawn_keys registry ms =
 unfoldable pub spawn_table : List TypeInfo → Members → Reading SpawnEntry
 spawn_table registry ms =
     unless (unknown_key (codes "count" ∷ codes "with" ∷ codes "disabled" ∷ []) ms) (spawn_keys registry ms)
+
+-- an element of the list
+unfoldable pub spawn_item : List TypeInfo → Data → Reading SpawnEntry
+spawn_item registry d = and_then (spawn_table registry) (members d)

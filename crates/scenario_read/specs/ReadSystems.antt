@@ -19,10 +19,12 @@ use Rattle.scenario_read.specs.declared.groups.Placement.{Placement}
 use Rattle.scenario_read.specs.declared.systems.Clauses.{Clauses}
 use Rattle.scenario_read.specs.declared.systems.Filters.{Filters}
 use Rattle.scenario_read.specs.declared.systems.Acts.{Acts}
+use Rattle.scenario_read.specs.declared.system_list.Heading.{Heading}
+use Rattle.scenario_read.specs.declared.system_list.Body.{Body}
 use Rattle.scenario_read.specs.declared.record.SystemEntry.{SystemEntry}
 use Rattle.scenario_read.specs.declared.type_lists.Named.{Named}
 use Rattle.scenario_read.specs.Faults.{Reading, bad, under, at_place, and_then, changed, unless, fault_if}
-use Rattle.scenario_read.specs.ReadKeys.{unknown_key, required, optional, truth, number, name, list, members_up_to, each_up_to, item_count}
+use Rattle.scenario_read.specs.ReadKeys.{unknown_key, required, optional, truth, number, name, list, members_up_to, each_up_to, item_count, members}
 use Rattle.scenario_read.specs.ReadTexts.{system_assign, system_switch}
 use Rattle.scenario_read.specs.ReadTypeLists.{type_of_key, type_list, beside}
 use Rattle.scenario_read.specs.ReadGroups.{placement, default_group}
@@ -126,28 +128,50 @@ acts registry bound ms =
 
 -- ---- the table
 
-abbrev pub system_of : List ℕ → List ℕ → Placement → ℕ → Clauses → Filters → Acts → SystemEntry
-system_of n group p every c f a = record {
-  name = n;
-  group = group;
-  before = p.before;
-  after = p.after;
-  first = p.first;
-  last = p.last;
-  every = every;
-  all = c.all;
-  any = c.any;
-  none = c.none;
-  disabled = c.disabled;
-  absent = c.absent;
-  include_disabled = f.include_disabled;
-  include_prefab = f.include_prefab;
-  changed = f.changed;
-  order_changed = f.order_changed;
-  shared = f.shared;
-  set = a.set;
-  enable = a.enable;
-  command = a.command;
+-- which system it is, and when it runs
+abbrev pub heading_of : Members → Reading Heading
+heading_of ms =
+    and_then (λ n.
+    and_then (λ group.
+    and_then (λ p.
+    changed (λ every. record { name = n; group = group; placement = p; every = every })
+    (optional (codes "every") 1 (number 1 100000) ms))
+    (placement ms))
+    (optional (codes "group") default_group name ms))
+    (required (codes "name") name ms)
+
+-- which rows it visits, and what it does with them
+abbrev pub body_of : List TypeInfo → Members → Reading Body
+body_of registry ms =
+    and_then (λ c.
+    and_then (λ f.
+    changed (λ a. record { clauses = c; filters = f; acts = a })
+    (acts registry (bound_types c) ms))
+    (filters registry c.all ms))
+    (clauses registry ms)
+
+abbrev pub system_of : Heading → Body → SystemEntry
+system_of h b = record {
+  name = h.name;
+  group = h.group;
+  before = h.placement.before;
+  after = h.placement.after;
+  first = h.placement.first;
+  last = h.placement.last;
+  every = h.every;
+  all = b.clauses.all;
+  any = b.clauses.any;
+  none = b.clauses.none;
+  disabled = b.clauses.disabled;
+  absent = b.clauses.absent;
+  include_disabled = b.filters.include_disabled;
+  include_prefab = b.filters.include_prefab;
+  changed = b.filters.changed;
+  order_changed = b.filters.order_changed;
+  shared = b.filters.shared;
+  set = b.acts.set;
+  enable = b.acts.enable;
+  command = b.acts.command;
 }
 
 -- a system can't be both first and last
@@ -155,21 +179,7 @@ abbrev pub shaped_system : SystemEntry → Reading SystemEntry
 shaped_system s = unless (fault_if (s.first && s.last) BadShape) (Ok s)
 
 abbrev pub system_keys : List TypeInfo → Members → Reading SystemEntry
-system_keys registry ms =
-    and_then (λ n.
-    and_then (λ group.
-    and_then (λ p.
-    and_then (λ every.
-    and_then (λ c.
-    and_then (λ f.
-    and_then (λ a. shaped_system (system_of n group p every c f a))
-    (acts registry (bound_types c) ms))
-    (filters registry c.all ms))
-    (clauses registry ms))
-    (optional (codes "every") 1 (number 1 100000) ms))
-    (placement ms))
-    (optional (codes "group") default_group name ms))
-    (required (codes "name") name ms)
+system_keys registry ms = and_then (λ h. and_then (λ b. shaped_system (system_of h b)) (body_of registry ms)) (heading_of ms)
 
 abbrev pub known_in_a_system : List (List ℕ)
 known_in_a_system =
@@ -180,3 +190,7 @@ known_in_a_system =
 
 unfoldable pub system_table : List TypeInfo → Members → Reading SystemEntry
 system_table registry ms = unless (unknown_key known_in_a_system ms) (system_keys registry ms)
+
+-- an element of the list
+unfoldable pub system_item : List TypeInfo → Data → Reading SystemEntry
+system_item registry d = and_then (system_table registry) (members d)

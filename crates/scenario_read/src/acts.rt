@@ -4,13 +4,13 @@ ghost use Rattle.toml.specs.View.{view, items_view, table_view};
 ghost use Rattle.scenario_read.specs.Faults.{Answers};
 ghost use Rattle.scenario_read.specs.ReadKeys.{optional, each_from, each_up_to};
 ghost use Rattle.scenario_read.specs.ReadTexts.{system_assign, system_switch};
-ghost use Rattle.scenario_read.specs.ReadSystems.{acts};
+ghost use Rattle.scenario_read.specs.ReadSystems.{acts, bound_types};
 
 use crate::commands::commands_at;
 use crate::fault::ScenarioFault;
 use crate::faults::{at_place, under};
 use crate::keys::{list_up_to, value_of};
-use crate::systems::Acts;
+use crate::systems::{Acts, Clauses, bound_types};
 use crate::texts::{system_assign, system_switch};
 use ent_types::{Registry, Sequence, TypeSet};
 use expr_read::{Assign, Switch};
@@ -107,8 +107,21 @@ fn switches_at(
     }
 }
 
+/// What a system does with each row that its clauses pick.
+pub(crate) fn acts_of(
+    alloc: Global,
+    registry: &Registry,
+    clauses: &Clauses,
+    table: &Table,
+) -> Result<Acts, ScenarioFault>
+    ensures { Answers (acts registry.now (bound_types clauses.now) (table_view table.now)) result }
+{
+    let bound = bound_types(clauses);
+    acts(alloc, registry, &bound, table)
+}
+
 /// What a system does with each row, whose bound types are these.
-pub(crate) fn acts(
+fn acts(
     alloc: Global,
     registry: &Registry,
     bound: &TypeSet,

@@ -152,7 +152,11 @@ fn act_at(
     ensures { Answers (required (codes "do") (system_command registry.now bound.now made.now) (table_view table.now)) result }
 {
     match value_of(table, "do") {
-        Some(value) => under(alloc, "do", system_command(alloc, registry, bound, made, value)),
+        Some(value) => under(
+            alloc,
+            "do",
+            system_command(alloc, registry, bound, made, value),
+        ),
         None => missing(alloc, "do"),
     }
 }
@@ -249,7 +253,11 @@ pub(crate) fn commands_at(
     ensures { Answers (optional (codes "command") [] (command_list registry.now bound.now) (table_view table.now)) result }
 {
     match value_of(table, "command") {
-        Some(value) => under(alloc, "command", command_list(alloc, registry, bound, value)),
+        Some(value) => under(
+            alloc,
+            "command",
+            command_list(alloc, registry, bound, value),
+        ),
         None => Ok(Sequence::new(alloc)),
     }
 }

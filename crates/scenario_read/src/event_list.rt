@@ -2,9 +2,9 @@
 ghost use Rattle.std.specs.Prelude.{◌≡◌, [], codes};
 ghost use Rattle.toml.specs.View.{view, items_view, table_view};
 ghost use Rattle.scenario_read.specs.Faults.{Answers, and_then};
-ghost use Rattle.scenario_read.specs.ReadKeys.{optional, perhaps, each_from, members, tables_up_to};
+ghost use Rattle.scenario_read.specs.ReadKeys.{optional, perhaps, each_from, members, each_up_to};
 ghost use Rattle.scenario_read.specs.ReadTexts.{event_command};
-ghost use Rattle.scenario_read.specs.ReadEvents.{event_values, event_table};
+ghost use Rattle.scenario_read.specs.ReadEvents.{event_values, event_table, event_item};
 
 use crate::events::{EventKeys, delay_at, event_of, frame_at, load_at, name_at};
 use crate::fault::ScenarioFault;
@@ -77,8 +77,9 @@ fn event_table(
     event_of(alloc, keys)
 }
 
+#[tactic(auto, unfolding(crate::specs::ReadEvents::event_item))]
 fn event_in(alloc: Global, registry: &Registry, value: &Value) -> Result<EventEntry, ScenarioFault>
-    ensures { Answers (and_then (event_table registry.now) (members (view value.now))) result }
+    ensures { Answers (event_item registry.now (view value.now)) result }
 {
     let table = members(alloc, value)?;
     event_table(alloc, registry, table)
@@ -89,7 +90,7 @@ fn each_event(
     registry: &Registry,
     values: &[Value],
 ) -> Result<Sequence<EventEntry>, ScenarioFault>
-    ensures { Answers (each_from (λ d. and_then (event_table registry.now) (members d)) 0 (items_view values.now)) result }
+    ensures { Answers (each_from (event_item registry.now) 0 (items_view values.now)) result }
 {
     let mut events = Sequence::new(alloc);
     for (i, value) in values.iter().enumerate() {
@@ -104,7 +105,7 @@ fn events(
     registry: &Registry,
     value: &Value,
 ) -> Result<Sequence<EventEntry>, ScenarioFault>
-    ensures { Answers (tables_up_to 4096 (event_table registry.now) (view value.now)) result }
+    ensures { Answers (each_up_to 4096 (event_item registry.now) (view value.now)) result }
 {
     let values = list_up_to(alloc, MOST_EVENTS, value)?;
     each_event(alloc, registry, values)
@@ -116,7 +117,7 @@ pub(crate) fn events_at(
     registry: &Registry,
     table: &Table,
 ) -> Result<Sequence<EventEntry>, ScenarioFault>
-    ensures { Answers (optional (codes "event") [] (tables_up_to 4096 (event_table registry.now)) (table_view table.now)) result }
+    ensures { Answers (optional (codes "event") [] (each_up_to 4096 (event_item registry.now)) (table_view table.now)) result }
 {
     match value_of(table, "event") {
         Some(value) => under(alloc, "event", events(alloc, registry, value)),

@@ -69,11 +69,7 @@ fn new_field(
     Ok(field)
 }
 
-fn field_in(
-    alloc: Global,
-    earlier: &[FieldInfo],
-    text: &str,
-) -> Result<FieldInfo, ScenarioFault>
+fn field_in(alloc: Global, earlier: &[FieldInfo], text: &str) -> Result<FieldInfo, ScenarioFault>
     ensures { Answers (and_then (new_field earlier.now) (or_fault BadWord (field_named text.now))) result }
 {
     match field_named(text) {
@@ -82,11 +78,7 @@ fn field_in(
     }
 }
 
-fn field(
-    alloc: Global,
-    earlier: &[FieldInfo],
-    value: &Value,
-) -> Result<FieldInfo, ScenarioFault>
+fn field(alloc: Global, earlier: &[FieldInfo], value: &Value) -> Result<FieldInfo, ScenarioFault>
     ensures { Answers (field earlier.now (view value.now)) result }
 {
     let text = text(alloc, value)?;

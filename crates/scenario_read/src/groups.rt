@@ -134,10 +134,7 @@ fn groups(alloc: Global, value: &Value) -> Result<Sequence<GroupEntry>, Scenario
 }
 
 /// The groups of a scenario, under the key `group`.
-pub(crate) fn groups_at(
-    alloc: Global,
-    table: &Table,
-) -> Result<Sequence<GroupEntry>, ScenarioFault>
+pub(crate) fn groups_at(alloc: Global, table: &Table) -> Result<Sequence<GroupEntry>, ScenarioFault>
     ensures { Answers (optional (codes "group") [] (tables_up_to 64 group_table) (table_view table.now)) result }
 {
     match value_of(table, "group") {

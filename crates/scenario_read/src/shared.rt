@@ -31,11 +31,7 @@ pub(crate) fn fits(kind: FieldKind, number: i64) -> bool
     }
 }
 
-fn fitting(
-    alloc: Global,
-    kind: FieldKind,
-    number: i64,
-) -> Result<ent_types::Value, ScenarioFault>
+fn fitting(alloc: Global, kind: FieldKind, number: i64) -> Result<ent_types::Value, ScenarioFault>
     ensures { Answers (shared_value kind (integer number)) result }
 {
     if !fits(kind, number) {

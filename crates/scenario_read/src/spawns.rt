@@ -1,13 +1,12 @@
 //! What is made before the first frame.
-ghost use Rattle.std.specs.Prelude.{◌≡◌, ◌<◌, [], codes, length, IfOk};
+ghost use Rattle.std.specs.Prelude.{◌≡◌, ◌<◌, [], codes, length, All, IfOk};
 ghost use Rattle.toml.specs.View.{view, items_view, table_view};
-ghost use Rattle.scenario_read.specs.Faults.{Answers, AnswersAs, and_then, changed};
-ghost use Rattle.scenario_read.specs.ReadKeys.{optional, number, each_from, list, members, tables_up_to};
-ghost use Rattle.scenario_read.specs.ReadTypeLists.{types_from, beside};
-ghost use Rattle.scenario_read.specs.ReadSpawns.{part_of, part, parts_of, with_table, part_types, may_be_off, off_types, spawn_keys, spawn_table};
+ghost use Rattle.scenario_read.specs.Faults.{Answers};
+ghost use Rattle.scenario_read.specs.ReadKeys.{optional, number, each_from, list, members, each_up_to};
+ghost use Rattle.scenario_read.specs.ReadSpawns.{part_of, part, parts_of, with_table, part_types, may_be_off, off_types, spawn_keys, spawn_table, spawn_item};
 
 use crate::fault::ScenarioFault;
-use crate::faults::{at_place, below_key, under};
+use crate::faults::{at_place, under};
 use crate::keyed::number_at;
 use crate::keys::{list, list_up_to, members, only_known, value_of};
 use crate::record::SpawnEntry;
@@ -52,68 +51,76 @@ fn part(
     part_of(alloc, registry, values, ty)
 }
 
-/// What is read under `with`.
-#[derive(Drop)]
-struct Parts {
-    /// The parts, in order of the types' names.
-    parts: Sequence<PartExpr>,
-    /// Their types.
-    types: TypeSet,
-}
-
 /// The parts under the keys of a table.
-fn parts_of(alloc: Global, registry: &Registry, table: &Table) -> Result<Parts, ScenarioFault>
-    ensures answer { AnswersAs (λ p. p.parts) (parts_of registry.now (table_view table.now)) result }
-    ensures types { IfOk result (λ p. p.types ≡ part_types p.parts) }
+fn parts_of(
+    alloc: Global,
+    registry: &Registry,
+    table: &Table,
+) -> Result<Sequence<PartExpr>, ScenarioFault>
+    ensures answer { Answers (parts_of registry.now (table_view table.now)) result }
+    ensures small { IfOk result (λ parts. All (λ p. p.ty.0 < 256) parts) }
 {
     let mut parts = Sequence::new(alloc);
-    let mut types = TypeSet::empty();
     for (key, value) in table {
         let key = key.as_str();
         let part = under(alloc, key, part(alloc, registry, key, value))?;
-        types = types.with(part.ty);
         parts.push(part)?;
     }
-    Ok(Parts { parts, types })
+    Ok(parts)
 }
 
-fn with_table(alloc: Global, registry: &Registry, value: &Value) -> Result<Parts, ScenarioFault>
-    ensures answer { AnswersAs (λ p. p.parts) (with_table registry.now (view value.now)) result }
-    ensures types { IfOk result (λ p. p.types ≡ part_types p.parts) }
+fn with_table(
+    alloc: Global,
+    registry: &Registry,
+    value: &Value,
+) -> Result<Sequence<PartExpr>, ScenarioFault>
+    ensures answer { Answers (with_table registry.now (view value.now)) result }
+    ensures small { IfOk result (λ parts. All (λ p. p.ty.0 < 256) parts) }
 {
     let table = members(alloc, value)?;
     parts_of(alloc, registry, table)
 }
 
 /// The parts of a spawn, under the key `with`.
-fn parts_at(alloc: Global, registry: &Registry, table: &Table) -> Result<Parts, ScenarioFault>
-    ensures answer { AnswersAs (λ p. p.parts) (optional (codes "with") [] (with_table registry.now) (table_view table.now)) result }
-    ensures types { IfOk result (λ p. p.types ≡ part_types p.parts) }
+fn parts_at(
+    alloc: Global,
+    registry: &Registry,
+    table: &Table,
+) -> Result<Sequence<PartExpr>, ScenarioFault>
+    ensures answer { Answers (optional (codes "with") [] (with_table registry.now) (table_view table.now)) result }
+    ensures small { IfOk result (λ parts. All (λ p. p.ty.0 < 256) parts) }
 {
     match value_of(table, "with") {
-        Some(value) => match with_table(alloc, registry, value) {
-            Ok(parts) => Ok(parts),
-            Err(fault) => Err(below_key(alloc, "with", fault)),
-        },
-        None => Ok(Parts {
-            parts: Sequence::new(alloc),
-            types: TypeSet::empty(),
-        }),
+        Some(value) => under(alloc, "with", with_table(alloc, registry, value)),
+        None => Ok(Sequence::new(alloc)),
     }
 }
 
-/// The types that a list names, of those that can be switched off.
+/// The types of these parts.
+fn types_of(parts: &[PartExpr]) -> TypeSet
+    requires { All (λ p. p.ty.0 < 256) parts.now }
+    ensures { result ≡ part_types parts.now }
+{
+    let mut types = TypeSet::empty();
+    for part in parts {
+        types = types.with(part.ty);
+    }
+    types
+}
+
+/// The types that a list names, of those of the parts that can be switched off.
 fn off_types(
     alloc: Global,
     registry: &Registry,
-    types: &TypeSet,
+    parts: &[PartExpr],
     value: &Value,
 ) -> Result<TypeSet, ScenarioFault>
-    ensures { Answers (changed (λ n. n.found) (and_then (types_from registry.now (may_be_off registry.now types.now) (beside []) 0) (list (view value.now)))) result }
+    requires { All (λ p. p.ty.0 < 256) parts.now }
+    ensures { Answers (off_types registry.now parts.now (view value.now)) result }
 {
     let values = list(alloc, value)?;
     let none = TypeSet::empty();
-    let fitting = Fitting::SwitchableOf(*types);
+    let fitting = Fitting::SwitchableOf(types_of(parts));
     let named = each_type(alloc, registry, &fitting, &none, values)?;
     Ok(named.found)
 }
@@ -122,27 +129,31 @@ fn off_types(
 fn off_at(
     alloc: Global,
     registry: &Registry,
-    parts: &Parts,
+    parts: &[PartExpr],
     table: &Table,
 ) -> Result<TypeSet, ScenarioFault>
-    requires { parts.now.types ≡ part_types parts.now.parts }
-    ensures { Answers (optional (codes "disabled") [] (off_types registry.now parts.now.parts) (table_view table.now)) result }
+    requires { All (λ p. p.ty.0 < 256) parts.now }
+    ensures { Answers (optional (codes "disabled") [] (off_types registry.now parts.now) (table_view table.now)) result }
 {
     match value_of(table, "disabled") {
-        Some(value) => under(alloc, "disabled", off_types(alloc, registry, &parts.types, value)),
+        Some(value) => under(alloc, "disabled", off_types(alloc, registry, parts, value)),
         None => Ok(TypeSet::empty()),
     }
 }
 
-fn spawn_keys(alloc: Global, registry: &Registry, table: &Table) -> Result<SpawnEntry, ScenarioFault>
+fn spawn_keys(
+    alloc: Global,
+    registry: &Registry,
+    table: &Table,
+) -> Result<SpawnEntry, ScenarioFault>
     ensures { Answers (spawn_keys registry.now (table_view table.now)) result }
 {
     let count = number_at(alloc, "count", MOST_ROWS, table)?;
     let parts = parts_at(alloc, registry, table)?;
-    let disabled = off_at(alloc, registry, &parts, table)?;
+    let disabled = off_at(alloc, registry, parts.as_slice(), table)?;
     Ok(SpawnEntry {
         count,
-        parts: parts.parts,
+        parts,
         disabled,
     })
 }
@@ -159,8 +170,9 @@ fn spawn_table(
     spawn_keys(alloc, registry, table)
 }
 
+#[tactic(auto, unfolding(crate::specs::ReadSpawns::spawn_item))]
 fn spawn_in(alloc: Global, registry: &Registry, value: &Value) -> Result<SpawnEntry, ScenarioFault>
-    ensures { Answers (and_then (spawn_table registry.now) (members (view value.now))) result }
+    ensures { Answers (spawn_item registry.now (view value.now)) result }
 {
     let table = members(alloc, value)?;
     spawn_table(alloc, registry, table)
@@ -171,7 +183,7 @@ fn each_spawn(
     registry: &Registry,
     values: &[Value],
 ) -> Result<Sequence<SpawnEntry>, ScenarioFault>
-    ensures { Answers (each_from (λ d. and_then (spawn_table registry.now) (members d)) 0 (items_view values.now)) result }
+    ensures { Answers (each_from (spawn_item registry.now) 0 (items_view values.now)) result }
 {
     let mut spawns = Sequence::new(alloc);
     for (i, value) in values.iter().enumerate() {
@@ -186,7 +198,7 @@ fn spawns(
     registry: &Registry,
     value: &Value,
 ) -> Result<Sequence<SpawnEntry>, ScenarioFault>
-    ensures { Answers (tables_up_to 1024 (spawn_table registry.now) (view value.now)) result }
+    ensures { Answers (each_up_to 1024 (spawn_item registry.now) (view value.now)) result }
 {
     let values = list_up_to(alloc, MOST_SPAWNS, value)?;
     each_spawn(alloc, registry, values)
@@ -198,7 +210,7 @@ pub(crate) fn spawns_at(
     registry: &Registry,
     table: &Table,
 ) -> Result<Sequence<SpawnEntry>, ScenarioFault>
-    ensures { Answers (optional (codes "spawn") [] (tables_up_to 1024 (spawn_table registry.now)) (table_view table.now)) result }
+    ensures { Answers (optional (codes "spawn") [] (each_up_to 1024 (spawn_item registry.now)) (table_view table.now)) result }
 {
     match value_of(table, "spawn") {
         Some(value) => under(alloc, "spawn", spawns(alloc, registry, value)),

@@ -2,17 +2,17 @@
 ghost use Rattle.std.specs.Prelude.{◌≡◌, [], codes};
 ghost use Rattle.toml.specs.View.{view, items_view, table_view};
 ghost use Rattle.scenario_read.specs.Faults.{Answers, and_then};
-ghost use Rattle.scenario_read.specs.ReadKeys.{optional, each_from, members, tables_up_to};
-ghost use Rattle.scenario_read.specs.ReadSystems.{known_in_a_system, system_of, shaped_system, system_keys, system_table};
+ghost use Rattle.scenario_read.specs.ReadKeys.{optional, each_from, members, each_up_to};
+ghost use Rattle.scenario_read.specs.ReadSystems.{heading_of, body_of, system_of, shaped_system, system_keys, system_table, system_item};
 
-use crate::acts::acts;
+use crate::acts::acts_of;
 use crate::fault::{Cause, ScenarioFault};
 use crate::faults::{at_place, bad, under};
 use crate::groups::{Placement, default_group, placement_of};
 use crate::keyed::{name_or, number_at, own_name};
 use crate::keys::{list_up_to, members, only_known, value_of};
 use crate::record::SystemEntry;
-use crate::systems::{Acts, Clauses, Filters, bound_types, clauses_of, filters_of};
+use crate::systems::{Acts, Clauses, Filters, clauses_of, filters_of};
 use ent_types::{Name, Registry, Sequence};
 use std::alloc::Global;
 use toml::{Table, Value};
@@ -47,18 +47,72 @@ const KEYS: [&str; 20] = [
     "command",
 ];
 
-/// A system of what its keys give.
-fn system_of(
+/// Which system it is, and when it runs.
+#[derive(Drop)]
+struct Heading {
+    /// Its name.
     name: Name,
+    /// The group that it is a child of.
     group: Name,
+    /// Its place among its siblings.
     placement: Placement,
+    /// How seldom it runs.
     every: u32,
-    clauses: Clauses,
-    filters: Filters,
-    acts: Acts,
-) -> SystemEntry
-    ensures { result ≡ system_of name group placement every clauses filters acts }
+}
+
+fn heading_of(alloc: Global, table: &Table) -> Result<Heading, ScenarioFault>
+    ensures { Answers (heading_of (table_view table.now)) result }
 {
+    let name = own_name(alloc, table)?;
+    let group = name_or(alloc, "group", default_group(), table)?;
+    let placement = placement_of(alloc, table)?;
+    let every = number_at(alloc, "every", MOST_FRAMES, table)?;
+    Ok(Heading {
+        name,
+        group,
+        placement,
+        every,
+    })
+}
+
+/// Which rows a system visits, and what it does with them.
+#[derive(Drop)]
+struct Body {
+    /// The five clauses.
+    clauses: Clauses,
+    /// Which rows and blocks are left out or taken besides.
+    filters: Filters,
+    /// What is done with each row.
+    acts: Acts,
+}
+
+fn body_of(alloc: Global, registry: &Registry, table: &Table) -> Result<Body, ScenarioFault>
+    ensures { Answers (body_of registry.now (table_view table.now)) result }
+{
+    let clauses = clauses_of(alloc, registry, table)?;
+    let filters = filters_of(alloc, registry, &clauses.all, table)?;
+    let acts = acts_of(alloc, registry, &clauses, table)?;
+    Ok(Body {
+        clauses,
+        filters,
+        acts,
+    })
+}
+
+fn system_of(heading: Heading, body: Body) -> SystemEntry
+    ensures { result ≡ system_of heading body }
+{
+    let Heading {
+        name,
+        group,
+        placement,
+        every,
+    } = heading;
+    let Body {
+        clauses,
+        filters,
+        acts,
+    } = body;
     SystemEntry {
         name,
         group,
@@ -100,16 +154,9 @@ fn system_keys(
 ) -> Result<SystemEntry, ScenarioFault>
     ensures { Answers (system_keys registry.now (table_view table.now)) result }
 {
-    let name = own_name(alloc, table)?;
-    let group = name_or(alloc, "group", default_group(), table)?;
-    let placement = placement_of(alloc, table)?;
-    let every = number_at(alloc, "every", MOST_FRAMES, table)?;
-    let clauses = clauses_of(alloc, registry, table)?;
-    let bound = bound_types(&clauses);
-    let filters = filters_of(alloc, registry, &clauses.all, table)?;
-    let acts = acts(alloc, registry, &bound, table)?;
-    let system = system_of(name, group, placement, every, clauses, filters, acts);
-    shaped_system(alloc, system)
+    let heading = heading_of(alloc, table)?;
+    let body = body_of(alloc, registry, table)?;
+    shaped_system(alloc, system_of(heading, body))
 }
 
 #[tactic(auto, unfolding(crate::specs::ReadSystems::system_table))]
@@ -124,12 +171,13 @@ fn system_table(
     system_keys(alloc, registry, table)
 }
 
+#[tactic(auto, unfolding(crate::specs::ReadSystems::system_item))]
 fn system_in(
     alloc: Global,
     registry: &Registry,
     value: &Value,
 ) -> Result<SystemEntry, ScenarioFault>
-    ensures { Answers (and_then (system_table registry.now) (members (view value.now))) result }
+    ensures { Answers (system_item registry.now (view value.now)) result }
 {
     let table = members(alloc, value)?;
     system_table(alloc, registry, table)
@@ -140,7 +188,7 @@ fn each_system(
     registry: &Registry,
     values: &[Value],
 ) -> Result<Sequence<SystemEntry>, ScenarioFault>
-    ensures { Answers (each_from (λ d. and_then (system_table registry.now) (members d)) 0 (items_view values.now)) result }
+    ensures { Answers (each_from (system_item registry.now) 0 (items_view values.now)) result }
 {
     let mut systems = Sequence::new(alloc);
     for (i, value) in values.iter().enumerate() {
@@ -155,7 +203,7 @@ fn systems(
     registry: &Registry,
     value: &Value,
 ) -> Result<Sequence<SystemEntry>, ScenarioFault>
-    ensures { Answers (tables_up_to 256 (system_table registry.now) (view value.now)) result }
+    ensures { Answers (each_up_to 256 (system_item registry.now) (view value.now)) result }
 {
     let values = list_up_to(alloc, MOST_SYSTEMS, value)?;
     each_system(alloc, registry, values)
@@ -167,7 +215,7 @@ pub(crate) fn systems_at(
     registry: &Registry,
     table: &Table,
 ) -> Result<Sequence<SystemEntry>, ScenarioFault>
-    ensures { Answers (optional (codes "system") [] (tables_up_to 256 (system_table registry.now)) (table_view table.now)) result }
+    ensures { Answers (optional (codes "system") [] (each_up_to 256 (system_item registry.now)) (table_view table.now)) result }
 {
     match value_of(table, "system") {
         Some(value) => under(alloc, "system", systems(alloc, registry, value)),

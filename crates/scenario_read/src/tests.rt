@@ -78,7 +78,10 @@ fn fault(alloc: Global, text: &str) -> Option<(Cause, Option<u32>)> {
 fn tells_the_first_fault(rt: HostRuntime) -> Result<(), Fail> {
     let alloc = rt.alloc();
     assert_eq!(rt; fault(alloc, "frames ="), Some((Cause::NotToml, None)));
-    assert_eq!(rt; fault(alloc, "b = 1\na = 1"), Some((Cause::UnknownKey, None)));
+    assert_eq!(rt;
+        fault(alloc, "b = 1\na = 1"),
+        Some((Cause::UnknownKey, None))
+    );
     let text = "frames = 1\n[[event]]\nframe = 1\ndo = \"destroy 0:\"";
     assert_eq!(rt; fault(alloc, text), Some((Cause::Unexpected, Some(10))));
     Ok(())

@@ -2,7 +2,7 @@
 ghost use Rattle.std.specs.Prelude.{◌≡◌, [], Some, Result};
 ghost use Rattle.toml.specs.View.{view};
 ghost use Rattle.expr_read.specs.declared.fault.ExprFault.{ExprFault};
-ghost use Rattle.expr_read.specs.declared.scope.TextPlace.TheVariants.{Spawn, Event, System};
+ghost use Rattle.expr_read.specs.declared.scope.TextPlace.TheVariants.{System};
 ghost use Rattle.expr_read.specs.ScopeOf.{scope_of};
 ghost use Rattle.expr_read.specs.Answers.{Tells, expr_answer, ref_answer, assign_answer, switch_answer, command_answer};
 ghost use Rattle.scenario_read.specs.declared.fault.ScenarioFault.TheVariants.{Bad};
@@ -55,21 +55,49 @@ fn told<T>(alloc: Global, found: Result<T, ExprFault>) -> Result<T, ScenarioFaul
     }
 }
 
-fn expr_in(
-    alloc: Global,
-    registry: &Registry,
-    bound: &TypeSet,
-    text: &str,
-) -> Result<Expr, ScenarioFault>
-    ensures { Answers (told (expr_answer (scope_of registry.now System bound.now []) text.now)) result }
+fn expr_in(alloc: Global, scope: &Scope, text: &str) -> Result<Expr, ScenarioFault>
+    ensures { Answers (told (expr_answer (scope_of scope.now.registry.now scope.now.place scope.now.bound.now scope.now.made.now) text.now)) result }
 {
-    let scope = Scope {
+    told(alloc, read_expr(alloc, text, scope))
+}
+
+fn ref_in(alloc: Global, scope: &Scope, text: &str) -> Result<RefExpr, ScenarioFault>
+    ensures { Answers (told (ref_answer (scope_of scope.now.registry.now scope.now.place scope.now.bound.now scope.now.made.now) text.now)) result }
+{
+    told(alloc, read_ref(alloc, text, scope))
+}
+
+fn assign_in(alloc: Global, scope: &Scope, text: &str) -> Result<Assign, ScenarioFault>
+    ensures { Answers (told (assign_answer (scope_of scope.now.registry.now scope.now.place scope.now.bound.now scope.now.made.now) text.now)) result }
+{
+    told(alloc, read_assign(alloc, text, scope))
+}
+
+fn switch_in(alloc: Global, scope: &Scope, text: &str) -> Result<Switch, ScenarioFault>
+    ensures { Answers (told (switch_answer (scope_of scope.now.registry.now scope.now.place scope.now.bound.now scope.now.made.now) text.now)) result }
+{
+    told(alloc, read_switch(alloc, text, scope))
+}
+
+fn command_in(alloc: Global, scope: &Scope, text: &str) -> Result<CommandText, ScenarioFault>
+    ensures { Answers (told (command_answer (scope_of scope.now.registry.now scope.now.place scope.now.bound.now scope.now.made.now) text.now)) result }
+{
+    told(alloc, read_command(alloc, text, scope))
+}
+
+/// Where a text of a system stands.
+fn in_system<'a>(registry: &'a Registry, bound: &'a TypeSet, made: &'a [Made]) -> Scope<'a>
+    ensures registry { result.registry.now ≡ registry.now }
+    ensures place { result.place ≡ System }
+    ensures bound { result.bound.now ≡ bound.now }
+    ensures made { result.made.now ≡ made.now }
+{
+    Scope {
         registry,
         place: TextPlace::System,
         bound,
-        made: &[],
-    };
-    told(alloc, read_expr(alloc, text, &scope))
+        made,
+    }
 }
 
 /// The expression of a system that a value is.
@@ -82,24 +110,8 @@ pub(crate) fn system_expr(
     ensures { Answers (system_expr registry.now bound.now (view value.now)) result }
 {
     let text = text(alloc, value)?;
-    expr_in(alloc, registry, bound, text)
-}
-
-fn assign_in(
-    alloc: Global,
-    registry: &Registry,
-    bound: &TypeSet,
-    text: &str,
-) -> Result<Assign, ScenarioFault>
-    ensures { Answers (told (assign_answer (scope_of registry.now System bound.now []) text.now)) result }
-{
-    let scope = Scope {
-        registry,
-        place: TextPlace::System,
-        bound,
-        made: &[],
-    };
-    told(alloc, read_assign(alloc, text, &scope))
+    let scope = in_system(registry, bound, &[]);
+    expr_in(alloc, &scope, text)
 }
 
 /// The assign of a system that a value is.
@@ -112,24 +124,8 @@ pub(crate) fn system_assign(
     ensures { Answers (system_assign registry.now bound.now (view value.now)) result }
 {
     let text = text(alloc, value)?;
-    assign_in(alloc, registry, bound, text)
-}
-
-fn switch_in(
-    alloc: Global,
-    registry: &Registry,
-    bound: &TypeSet,
-    text: &str,
-) -> Result<Switch, ScenarioFault>
-    ensures { Answers (told (switch_answer (scope_of registry.now System bound.now []) text.now)) result }
-{
-    let scope = Scope {
-        registry,
-        place: TextPlace::System,
-        bound,
-        made: &[],
-    };
-    told(alloc, read_switch(alloc, text, &scope))
+    let scope = in_system(registry, bound, &[]);
+    assign_in(alloc, &scope, text)
 }
 
 /// The switch of a system that a value is.
@@ -142,25 +138,8 @@ pub(crate) fn system_switch(
     ensures { Answers (system_switch registry.now bound.now (view value.now)) result }
 {
     let text = text(alloc, value)?;
-    switch_in(alloc, registry, bound, text)
-}
-
-fn command_in(
-    alloc: Global,
-    registry: &Registry,
-    bound: &TypeSet,
-    made: &[Made],
-    text: &str,
-) -> Result<CommandText, ScenarioFault>
-    ensures { Answers (told (command_answer (scope_of registry.now System bound.now made.now) text.now)) result }
-{
-    let scope = Scope {
-        registry,
-        place: TextPlace::System,
-        bound,
-        made,
-    };
-    told(alloc, read_command(alloc, text, &scope))
+    let scope = in_system(registry, bound, &[]);
+    switch_in(alloc, &scope, text)
 }
 
 /// The command of a system that a value is, where earlier ones make these names.
@@ -174,7 +153,24 @@ pub(crate) fn system_command(
     ensures { Answers (system_command registry.now bound.now made.now (view value.now)) result }
 {
     let text = text(alloc, value)?;
-    command_in(alloc, registry, bound, made, text)
+    let scope = in_system(registry, bound, made);
+    command_in(alloc, &scope, text)
+}
+
+/// Where a text stands that sees no row.
+fn outside<'a>(registry: &'a Registry, place: TextPlace, none: &'a TypeSet) -> Scope<'a>
+    requires { none.now ≡ [] }
+    ensures registry { result.registry.now ≡ registry.now }
+    ensures place { result.place ≡ place }
+    ensures bound { result.bound.now ≡ [] }
+    ensures made { result.made.now ≡ [] }
+{
+    Scope {
+        registry,
+        place,
+        bound: none,
+        made: &[],
+    }
 }
 
 /// The expression of a spawn that a text is.
@@ -186,13 +182,8 @@ pub(crate) fn spawn_expr(
     ensures { Answers (spawn_expr registry.now text.now) result }
 {
     let none = TypeSet::empty();
-    let scope = Scope {
-        registry,
-        place: TextPlace::Spawn,
-        bound: &none,
-        made: &[],
-    };
-    told(alloc, read_expr(alloc, text, &scope))
+    let scope = outside(registry, TextPlace::Spawn, &none);
+    expr_in(alloc, &scope, text)
 }
 
 /// The reference of a spawn that a text is.
@@ -204,26 +195,8 @@ pub(crate) fn spawn_ref(
     ensures { Answers (spawn_ref registry.now text.now) result }
 {
     let none = TypeSet::empty();
-    let scope = Scope {
-        registry,
-        place: TextPlace::Spawn,
-        bound: &none,
-        made: &[],
-    };
-    told(alloc, read_ref(alloc, text, &scope))
-}
-
-fn operation_in(alloc: Global, registry: &Registry, text: &str) -> Result<CommandText, ScenarioFault>
-    ensures { Answers (told (command_answer (scope_of registry.now Event [] []) text.now)) result }
-{
-    let none = TypeSet::empty();
-    let scope = Scope {
-        registry,
-        place: TextPlace::Event,
-        bound: &none,
-        made: &[],
-    };
-    told(alloc, read_command(alloc, text, &scope))
+    let scope = outside(registry, TextPlace::Spawn, &none);
+    ref_in(alloc, &scope, text)
 }
 
 /// The command of an event that a value is.
@@ -235,5 +208,7 @@ pub(crate) fn event_command(
     ensures { Answers (event_command registry.now (view value.now)) result }
 {
     let text = text(alloc, value)?;
-    operation_in(alloc, registry, text)
+    let none = TypeSet::empty();
+    let scope = outside(registry, TextPlace::Event, &none);
+    command_in(alloc, &scope, text)
 }

@@ -82,11 +82,7 @@ fn type_keys(alloc: Global, table: &Table) -> Result<TypeInfo, ScenarioFault>
 }
 
 /// Passes a type that is well formed and has a new name.
-fn new_type(
-    alloc: Global,
-    registry: &Registry,
-    info: TypeInfo,
-) -> Result<TypeInfo, ScenarioFault>
+fn new_type(alloc: Global, registry: &Registry, info: TypeInfo) -> Result<TypeInfo, ScenarioFault>
     ensures answer { Answers (new_type registry.now info) result }
     ensures same { IfOk result (λ new. new ≡ info) }
     ensures lawful { IfOk result (λ new. IsTrue (is_lawful_type new)) }
@@ -103,11 +99,7 @@ fn new_type(
 }
 
 #[tactic(auto, unfolding(crate::specs::ReadTypes::type_table))]
-fn type_table(
-    alloc: Global,
-    registry: &Registry,
-    table: &Table,
-) -> Result<TypeInfo, ScenarioFault>
+fn type_table(alloc: Global, registry: &Registry, table: &Table) -> Result<TypeInfo, ScenarioFault>
     ensures answer { Answers (type_table registry.now (table_view table.now)) result }
     ensures few { IfOk result (λ new. length new.fields ≤ 64) }
     ensures lawful { IfOk result (λ new. IsTrue (is_lawful_type new)) }
@@ -118,11 +110,7 @@ fn type_table(
     new_type(alloc, registry, info)
 }
 
-fn type_in(
-    alloc: Global,
-    registry: &Registry,
-    value: &Value,
-) -> Result<TypeInfo, ScenarioFault>
+fn type_in(alloc: Global, registry: &Registry, value: &Value) -> Result<TypeInfo, ScenarioFault>
     ensures answer { Answers (and_then (type_table registry.now) (members (view value.now))) result }
     ensures few { IfOk result (λ new. length new.fields ≤ 64) }
     ensures lawful { IfOk result (λ new. IsTrue (is_lawful_type new)) }

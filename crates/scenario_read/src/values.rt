@@ -15,7 +15,12 @@ use expr_read::{Expr, ValueExpr};
 use std::alloc::Global;
 use toml::Value;
 
-fn integer_for(alloc: Global, registry: &Registry, kind: FieldKind, number: i64) -> Result<ValueExpr, ScenarioFault>
+fn integer_for(
+    alloc: Global,
+    registry: &Registry,
+    kind: FieldKind,
+    number: i64,
+) -> Result<ValueExpr, ScenarioFault>
     ensures { Answers (number_value registry.now kind (integer number)) result }
 {
     if !fits(kind, number) {
@@ -24,7 +29,12 @@ fn integer_for(alloc: Global, registry: &Registry, kind: FieldKind, number: i64)
     Ok(ValueExpr::Int(Expr::Number(number)))
 }
 
-fn text_for(alloc: Global, registry: &Registry, kind: FieldKind, text: &str) -> Result<ValueExpr, ScenarioFault>
+fn text_for(
+    alloc: Global,
+    registry: &Registry,
+    kind: FieldKind,
+    text: &str,
+) -> Result<ValueExpr, ScenarioFault>
     ensures { Answers (number_value registry.now kind (string text.now)) result }
 {
     let expr = spawn_expr(alloc, registry, text)?;
@@ -32,7 +42,12 @@ fn text_for(alloc: Global, registry: &Registry, kind: FieldKind, text: &str) -> 
 }
 
 /// The number or the text that stands for a number field.
-fn number_value(alloc: Global, registry: &Registry, kind: FieldKind, value: &Value) -> Result<ValueExpr, ScenarioFault>
+fn number_value(
+    alloc: Global,
+    registry: &Registry,
+    kind: FieldKind,
+    value: &Value,
+) -> Result<ValueExpr, ScenarioFault>
     ensures { Answers (number_value registry.now kind (view value.now)) result }
 {
     match value {
@@ -51,7 +66,12 @@ fn ref_value(alloc: Global, registry: &Registry, value: &Value) -> Result<ValueE
     Ok(ValueExpr::Ref(found))
 }
 
-fn field_value(alloc: Global, registry: &Registry, kind: FieldKind, value: &Value) -> Result<ValueExpr, ScenarioFault>
+fn field_value(
+    alloc: Global,
+    registry: &Registry,
+    kind: FieldKind,
+    value: &Value,
+) -> Result<ValueExpr, ScenarioFault>
     ensures { Answers (field_value registry.now kind (view value.now)) result }
 {
     match kind {
@@ -62,13 +82,22 @@ fn field_value(alloc: Global, registry: &Registry, kind: FieldKind, value: &Valu
 }
 
 /// A value for each field.
-fn each_value(alloc: Global, registry: &Registry, fields: &[FieldInfo], values: &[Value]) -> Result<Sequence<ValueExpr>, ScenarioFault>
+fn each_value(
+    alloc: Global,
+    registry: &Registry,
+    fields: &[FieldInfo],
+    values: &[Value],
+) -> Result<Sequence<ValueExpr>, ScenarioFault>
     requires { length values.now ≡ length fields.now }
     ensures { Answers (values_from registry.now 0 fields.now (items_view values.now)) result }
 {
     let mut found = Sequence::new(alloc);
     for (i, field) in fields.iter().enumerate() {
-        let value = at_place(alloc, i, field_value(alloc, registry, field.kind, &values[i]))?;
+        let value = at_place(
+            alloc,
+            i,
+            field_value(alloc, registry, field.kind, &values[i]),
+        )?;
         found.push(value)?;
     }
     Ok(found)
@@ -76,7 +105,12 @@ fn each_value(alloc: Global, registry: &Registry, fields: &[FieldInfo], values: 
 
 /// A list of values, one for each field.
 #[tactic(auto, using(crate::proofs::KeyLemmas::counts))]
-pub(crate) fn part_values(alloc: Global, registry: &Registry, fields: &[FieldInfo], values: &[Value]) -> Result<Sequence<ValueExpr>, ScenarioFault>
+pub(crate) fn part_values(
+    alloc: Global,
+    registry: &Registry,
+    fields: &[FieldInfo],
+    values: &[Value],
+) -> Result<Sequence<ValueExpr>, ScenarioFault>
     ensures { Answers (part_values registry.now fields.now (items_view values.now)) result }
 {
     if values.len() != fields.len() {

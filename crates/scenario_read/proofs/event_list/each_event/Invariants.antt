@@ -1,11 +1,10 @@
 use Rattle.std.proofs.Common.{◌≡◌, drop}
 use Rattle.toml.specs.View.{items_view}
-use Rattle.scenario_read.specs.Faults.{and_then}
-use Rattle.scenario_read.specs.ReadKeys.{members, each_from}
-use Rattle.scenario_read.specs.ReadEvents.{event_table}
+use Rattle.scenario_read.specs.ReadKeys.{each_from}
+use Rattle.scenario_read.specs.ReadEvents.{event_item}
 use Rattle.scenario_read.proofs.ListLemmas.{onto}
 use Rattle.scenario_read.proofs.event_list.each_event.Given as goal
 
 abbrev pub invariant-loop-i : goal.invariant-loop-i
 invariant-loop-i l =
-    onto l.events (each_from (λ d. and_then (event_table l.registry) (members d)) l.i (items_view (drop l.i l.values))) ≡ each_from (λ d. and_then (event_table l.registry) (members d)) 0 (items_view l.values)
+    onto l.events (each_from (event_item l.registry) l.i (items_view (drop l.i l.values))) ≡ each_from (event_item l.registry) 0 (items_view l.values)
