@@ -1,3 +1,4 @@
+pub mod CheckLine
 pub mod ErrorLines
 pub mod Headline
 pub mod Outcome

@@ -9,10 +9,15 @@ use Rattle.ent_io.specs.declared.reading.Missing.TheVariants.{Absent, TooLong}
 use Rattle.scenario_read.specs.declared.fault.BadScenario.{BadScenario}
 use Rattle.scenario_read.specs.declared.record.Scenario.{Scenario}
 use Rattle.scenario_read.specs.ReadScenario.{scenario_of}
+use Rattle.scenario_check.specs.declared.plan.Plan.{Plan}
+use Rattle.scenario_check.specs.Planned.{checked}
 use Rattle.scenario_form.specs.Reading.{scenario_of as form_of}
 use Rattle.plain_world.specs.Run.{world_after}
 use Rattle.plain_text.specs.Lines.{world_text}
 use Rattle.entsim.specs.ErrorLines.{missing_line, fault_line, unbuilt_line, words_line}
+use Rattle.entsim.specs.CheckLine.{ok_line}
+use Rattle.entsim.specs.declared.task.Task.{Task}
+use Rattle.entsim.specs.declared.task.Task.TheVariants.{Run, Check}
 use Rattle.entsim.specs.Words.{Command, run, check, layout, plan, dump, make, bench, command_of}
 
 -- a text and a status
@@ -24,27 +29,40 @@ pub record Outcome : Type 0 where
 abbrev pub refused : List ℕ → Outcome
 refused line = record { text = line; status = Refused }
 
+-- a text to its end
+abbrev pub done : List ℕ → Outcome
+done text = record { text = text; status = Done }
+
 -- the run of a scenario: the world after its frames
 unfoldable pub run_outcome : Scenario → Outcome
-run_outcome s = record { text = world_text s.registry s.frames (world_after s); status = Done }
+run_outcome s = done (world_text s.registry s.frames (world_after s))
 
--- of the scenarios without a fault, those of the first form are run
+-- of the scenarios that pass their checks, those of the first form are run
 abbrev pub form_outcome : Result Scenario BadScenario → Outcome
 form_outcome (Ok s) = run_outcome s
 form_outcome (Err fault) = refused (fault_line fault)
 
--- a scenario at fault is refused
-abbrev pub scenario_outcome : List ℕ → Result Scenario BadScenario → Outcome
-scenario_outcome bytes (Ok s) = form_outcome (form_of bytes)
-scenario_outcome bytes (Err fault) = refused (fault_line fault)
+-- what a command does with the bytes of a scenario that passes its checks
+abbrev pub passed_outcome : Task → List ℕ → Scenario → Outcome
+passed_outcome Run bytes s = form_outcome (form_of bytes)
+passed_outcome Check bytes s = done (ok_line s)
 
--- the run of what was read: at most 1 MiB
-abbrev pub read_outcome : Result (List ℕ) Missing → Outcome
-read_outcome (Ok bytes) = scenario_outcome bytes (scenario_of bytes)
-read_outcome (Err missing) = refused (missing_line missing)
+abbrev pub checked_outcome : Task → List ℕ → Scenario → Result Plan BadScenario → Outcome
+checked_outcome task bytes s (Ok plan) = passed_outcome task bytes s
+checked_outcome task bytes s (Err fault) = refused (fault_line fault)
 
-abbrev pub file_outcome : Option (List ℕ) → Outcome
-file_outcome file = read_outcome (whole_of 1048576 file)
+-- a scenario at fault is refused, by what is read or by its checks
+abbrev pub scenario_outcome : Task → List ℕ → Result Scenario BadScenario → Outcome
+scenario_outcome task bytes (Ok s) = checked_outcome task bytes s (checked s)
+scenario_outcome task bytes (Err fault) = refused (fault_line fault)
+
+-- what was read of the file: at most 1 MiB
+abbrev pub read_outcome : Task → Result (List ℕ) Missing → Outcome
+read_outcome task (Ok bytes) = scenario_outcome task bytes (scenario_of bytes)
+read_outcome task (Err missing) = refused (missing_line missing)
+
+abbrev pub file_outcome : Task → Option (List ℕ) → Outcome
+file_outcome task file = read_outcome task (whole_of 1048576 file)
 
 -- a command that isn't built yet is refused before anything is read
 abbrev pub unbuilt : Outcome
@@ -55,10 +73,10 @@ abbrev pub is_alone : Option ℕ → Bool
 is_alone None = true
 is_alone (Some n) = n == 1
 
--- the run of a file with one worker and without a trace is built
+-- the run of a file with one worker and without a trace, and the check of a file are built
 abbrev pub command_outcome : Files → Command → Outcome
-command_outcome files (run file workers trace) = if is_alone workers && not trace then file_outcome (files file) else unbuilt
-command_outcome files (check file) = unbuilt
+command_outcome files (run file workers trace) = if is_alone workers && not trace then file_outcome Run (files file) else unbuilt
+command_outcome files (check file) = file_outcome Check (files file)
 command_outcome files (layout file) = unbuilt
 command_outcome files (plan file) = unbuilt
 command_outcome files (dump scenario scene) = unbuilt

@@ -1,10 +1,12 @@
 //! The program `entsim`: it reads the words after its name and the files of the current folder, and writes one text.
 #![tactic(auto)]
 
+mod check_line;
 mod refusal;
 mod run;
 #[cfg(test)]
 mod run_tests;
+mod task;
 #[cfg(test)]
 mod tests;
 mod top;

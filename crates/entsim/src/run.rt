@@ -1,15 +1,20 @@
-//! The command `run`: from the name of a file to the lines of the world after the frames.
+//! The commands over a scenario: from the name of its file to what they write.
 ghost use Rattle.std.specs.Prelude.{◌≡◌, Ok, IfSome};
 ghost use Rattle.ent_io.specs.End.{Causes};
 ghost use Rattle.scenario_form.specs.Formed.{IsOfForm};
 ghost use Rattle.entsim.specs.Headline.{Gives, Obeys};
+ghost use Rattle.scenario_check.specs.Read.{IsRead};
+ghost use Rattle.scenario_check.specs.Planned.{checked};
 ghost use Rattle.scenario_form.specs.Reading.{scenario_of as form_of};
-ghost use Rattle.entsim.specs.Outcome.{file_outcome, form_outcome, read_outcome, run_outcome};
+ghost use Rattle.entsim.specs.Outcome.{checked_outcome, file_outcome, form_outcome, passed_outcome, read_outcome, run_outcome};
 
+use crate::check_line::print_check;
 use crate::refusal::{refuse_fault, refuse_missing};
+use crate::task::Task;
 use ent_io::{End, Missing, ReadEnd, Sink, Status, Store, read_whole};
 use plain_text::write_world;
 use plain_world::run_scenario;
+use scenario_check::{check, what_is_read_can_be_checked};
 use scenario_form::read_form;
 use scenario_read::{Scenario, ScenarioFault, read_scenario};
 use std::alloc::Global;
@@ -45,33 +50,73 @@ fn run_form<W: Sink>(alloc: Global, bytes: &[u8], out: &mut W) -> Result<Status,
     }
 }
 
-/// Runs the scenario that the bytes are, or writes their first fault.
-fn run_bytes<W: Sink>(alloc: Global, bytes: &[u8], out: &mut W) -> Result<Status, End>
-    ensures gives { Gives (read_outcome (Ok bytes.now)) result (W.text out.old) (W.text out.new) }
+/// Does the task with a scenario that passes its checks.
+fn do_task<W: Sink>(
+    alloc: Global,
+    task: Task,
+    bytes: &[u8],
+    scenario: &Scenario,
+    out: &mut W,
+) -> Result<Status, End>
+    ensures gives { Gives (passed_outcome task bytes.now scenario.now) result (W.text out.old) (W.text out.new) }
     ensures obeys { Obeys result }
     ensures causes { Causes result 0 0 (W.faults out.old) (W.faults out.new) }
 {
-    match read_scenario(alloc, bytes) {
-        Ok(_) => run_form(alloc, bytes, out),
+    match task {
+        Task::Run => run_form(alloc, bytes, out),
+        Task::Check => print_check(alloc, scenario, out),
+    }
+}
+
+/// Does the task with a scenario, or writes the first fault that its checks find.
+fn check_first<W: Sink>(
+    alloc: Global,
+    task: Task,
+    bytes: &[u8],
+    scenario: &Scenario,
+    out: &mut W,
+) -> Result<Status, End>
+    requires { IsRead scenario.now }
+    ensures gives { Gives (checked_outcome task bytes.now scenario.now (checked scenario.now)) result (W.text out.old) (W.text out.new) }
+    ensures obeys { Obeys result }
+    ensures causes { Causes result 0 0 (W.faults out.old) (W.faults out.new) }
+{
+    match check(alloc, scenario) {
+        Ok(_) => do_task(alloc, task, bytes, scenario, out),
         Err(ScenarioFault::Bad(fault)) => refuse_fault(alloc, &fault, out),
         Err(ScenarioFault::Memory) => Err(End::Memory),
     }
 }
 
-/// Runs the scenario of a file, or writes why it is refused.
-pub fn run_file<S: Store, W: Sink>(
+/// Does the task with the scenario that the bytes are, or writes their first fault.
+fn read_first<W: Sink>(alloc: Global, task: Task, bytes: &[u8], out: &mut W) -> Result<Status, End>
+    ensures gives { Gives (read_outcome task (Ok bytes.now)) result (W.text out.old) (W.text out.new) }
+    ensures obeys { Obeys result }
+    ensures causes { Causes result 0 0 (W.faults out.old) (W.faults out.new) }
+{
+    what_is_read_can_be_checked();
+    match read_scenario(alloc, bytes) {
+        Ok(scenario) => check_first(alloc, task, bytes, &scenario, out),
+        Err(ScenarioFault::Bad(fault)) => refuse_fault(alloc, &fault, out),
+        Err(ScenarioFault::Memory) => Err(End::Memory),
+    }
+}
+
+/// Does the task with the scenario of a file, or writes why it is refused.
+pub fn scenario_file<S: Store, W: Sink>(
     alloc: Global,
+    task: Task,
     name: &str,
     store: &mut S,
     out: &mut W,
 ) -> Result<Status, End>
-    ensures gives { IfSome (S.files store.old) (λ files. Gives (file_outcome (files name.now)) result (W.text out.old) (W.text out.new)) }
+    ensures gives { IfSome (S.files store.old) (λ files. Gives (file_outcome task (files name.now)) result (W.text out.old) (W.text out.new)) }
     ensures obeys { Obeys result }
     ensures causes { Causes result (S.faults store.old) (S.faults store.new) (W.faults out.old) (W.faults out.new) }
     ensures files { S.files store.new ≡ S.files store.old }
 {
     match read_whole(alloc, store, name, MOST_BYTES) {
-        Ok(bytes) => run_bytes(alloc, &bytes, out),
+        Ok(bytes) => read_first(alloc, task, &bytes, out),
         Err(ReadEnd::Absent) => refuse_missing(Missing::Absent, out),
         Err(ReadEnd::Fault) => Err(End::ReadFault),
         Err(ReadEnd::TooLong) => refuse_missing(Missing::TooLong, out),

@@ -165,7 +165,7 @@ const COUNTS: [(&[u8], &[u8]); 2] = [
     ),
     (
         b"frames = 0\nspawn = [{ count = 1048576 }, {}]\n",
-        b"error scenario cause=NotBuilt\n",
+        b"error scenario cause=TooManyEntities key=spawn[1]\n",
     ),
 ];
 

@@ -63,7 +63,7 @@ const NO_COMMANDS: [&[&str]; 3] = [&[], &["run"], &["check", "-"]];
 const UNBUILT: [&[&str]; 4] = [
     &["run", "scenario", "--trace"],
     &["run", "scenario", "--workers", "2"],
-    &["check", "scenario"],
+    &["layout", "scenario"],
     &["make", "7"],
 ];
 
@@ -145,7 +145,7 @@ fn tells_a_failed_write(rt: HostRuntime) -> Result<(), Fail> {
 }
 
 // Files that are refused, and the cause.
-const REFUSED: [(Option<&[u8]>, &[u8]); 11] = [
+const REFUSED: [(Option<&[u8]>, &[u8]); 14] = [
     (None, b"error scenario cause=Absent\n"),
     (Some(b"frames ="), b"error scenario cause=NotToml\n"),
     (Some(b"\xff"), b"error scenario cause=NotToml\n"),
@@ -179,6 +179,21 @@ system = [{ name = "S", all = ["P"], set = ["P.v = 1", "P.v = P.w"] }]
 "#,
         ),
         b"error scenario cause=UnknownName key=system[0].set[1] at=8\n",
+    ),
+    (
+        Some(br#"frames = 1
+type = [{ name = "P", fields = ["v:i32"] }]
+system = [{ name = "S", all = ["P"], set = ["P.v = get(self, P.v)"] }]
+"#),
+        b"error scenario cause=LookupOfWritten key=system[0]\n",
+    ),
+    (
+        Some(b"frames = 1\nsystem = [{ name = \"S\" }, { name = \"S\" }]\n"),
+        b"error scenario cause=DuplicateName key=system[1].name\n",
+    ),
+    (
+        Some(b"frames = 1\nspawn = [{ count = 1048576 }, {}]\n"),
+        b"error scenario cause=TooManyEntities key=spawn[1]\n",
     ),
     (
         Some(b"frames = 1\nevent = []\n"),
@@ -227,6 +242,41 @@ fn takes_a_file_of_one_mebibyte_and_no_more(rt: HostRuntime) -> Result<(), Fail>
         let (_, text) = ended(&rt, rt.alloc(), RUN, &outside)?;
         assert_eq!(rt; text.as_slice(), line);
         file.push(b'#')?;
+    }
+    Ok(())
+}
+
+// Scenarios that are checked, and what is written.
+const CHECKED: [(&[u8], Status, &[u8]); 4] = [
+    (MOVING, Status::Done, b"ok types=2 systems=1 frames=2\n"),
+    (
+        b"frames = 0\nevent = [{ frame = 1, do = \"create n\" }]\n",
+        Status::Done,
+        b"ok types=0 systems=0 frames=0\n",
+    ),
+    (
+        b"frames = 1\nevent = [{ frame = 1, unload = \"A\" }]\n",
+        Status::Refused,
+        b"error scenario cause=UnknownName key=event[0].unload\n",
+    ),
+    (
+        b"frames = 1\ngroup = [{ name = \"A\" }]\n",
+        Status::Refused,
+        b"error scenario cause=NotBuilt\n",
+    ),
+];
+
+#[test]
+fn checks_a_scenario(rt: HostRuntime) -> Result<(), Fail> {
+    for (file, wanted, line) in CHECKED {
+        let outside = Outside {
+            file: Some(file),
+            reads: &[],
+            writes: &[],
+        };
+        let (status, text) = ended(&rt, rt.alloc(), &["check", "scenario"], &outside)?;
+        assert_eq!(rt; status, wanted);
+        assert_eq!(rt; text.as_slice(), line);
     }
     Ok(())
 }

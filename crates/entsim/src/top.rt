@@ -7,7 +7,8 @@ ghost use Rattle.entsim.specs.Outcome.{command_outcome, is_alone, outcome, words
 ghost use Rattle.entsim.specs.Headline.{Gives, Ends, EndsWhole, Obeys, WordsDecide, AnswersWords};
 
 use crate::refusal::{refuse_unbuilt, refuse_words};
-use crate::run::run_file;
+use crate::run::scenario_file;
+use crate::task::Task;
 use crate::words::{Command, read_words};
 use ent_io::{End, Gate, Sink, Status, Store};
 use std::alloc::Global;
@@ -80,7 +81,7 @@ fn obey<S: Store, W: Sink>(
             workers,
             trace,
         } => obey_run(alloc, file, workers, trace, store, out),
-        Command::Check { .. } => refuse_unbuilt(out),
+        Command::Check { file } => scenario_file(alloc, Task::Check, file, store, out),
         Command::Layout { .. } => refuse_unbuilt(out),
         Command::Plan { .. } => refuse_unbuilt(out),
         Command::Dump { .. } => refuse_unbuilt(out),
@@ -119,5 +120,5 @@ fn obey_run<S: Store, W: Sink>(
     if trace {
         return refuse_unbuilt(out);
     }
-    run_file(alloc, file, store, out)
+    scenario_file(alloc, Task::Run, file, store, out)
 }

@@ -1,14 +1,16 @@
 //! Scenarios, each tried up to its first fault.
 //!
-//! The file `scenarios.txt` of the current folder has scenarios with a line `----` between them. The program reads
-//! each, and prints a line: `ok`, or the first fault with its place. What it must print was worked out by an
+//! The file `scenarios.txt` of the current folder has scenarios with a line `----` between them. The program reads and
+//! checks each, and prints a line: `ok`, or the first fault with its place. What it must print was worked out by an
 //! independent program.
 //!
 //! The status is 0, or 2 where the file can't be read or memory runs out.
 #![tactic(auto)]
 
 use anyhow::{Context, Result, bail};
+use scenario_check::check;
 use scenario_read::{BadScenario, Cause, ScenarioFault, read_scenario};
+use std::alloc::Global;
 use std::process::ExitCode;
 use std::rt::Files;
 use std::{fs, io};
@@ -41,13 +43,20 @@ fn try_file<R: Files + Print + AllocGlobal>(rt: &R) -> Result<()> {
     Ok(())
 }
 
-/// Reads a scenario, and prints what comes out.
+/// Reads and checks a scenario, and prints what comes out.
 fn try_scenario<R: Print + AllocGlobal>(rt: &R, text: &str) -> Result<()> {
-    match read_scenario(rt.alloc(), text.as_bytes()) {
-        Ok(_) => println!(rt; "ok")?,
+    match read_and_check(rt.alloc(), text) {
+        Ok(()) => println!(rt; "ok")?,
         Err(ScenarioFault::Bad(bad)) => print_fault(rt, &bad)?,
         Err(ScenarioFault::Memory) => bail!("out of memory"),
     }
+    Ok(())
+}
+
+/// The first fault of a scenario, as it is read or checked.
+fn read_and_check(alloc: Global, text: &str) -> Result<(), ScenarioFault> {
+    let scenario = read_scenario(alloc, text.as_bytes())?;
+    check(alloc, &scenario)?;
     Ok(())
 }
 

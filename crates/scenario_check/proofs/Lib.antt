@@ -1,0 +1,10 @@
+pub mod Steps
+pub mod FaultLemmas
+pub mod TypeLemmas
+pub mod WalkLemmas
+pub mod SetLemmas
+pub mod NameLemmas
+pub mod LabelLemmas
+pub mod SiblingLemmas
+pub mod LookupLemmas
+pub mod ReadLemmas

@@ -1,0 +1,187 @@
+//! The children of groups, and the names by which they order themselves.
+ghost use Rattle.std.specs.Prelude.{◌≡◌, codes, find, map, ◌++◌, IfOk};
+ghost use Rattle.ent_types.specs.Types.{same_name};
+ghost use Rattle.scenario_read.specs.Faults.{Passes};
+ghost use Rattle.scenario_check.specs.Checks.{group_sibling, system_sibling, siblings_of, cause_between, cause_of_name, order_fault_from, order_fault, each_fault_from, siblings_fault};
+
+use crate::places::{at_element, bad};
+use ent_types::{Memory, Name};
+use scenario_read::{Cause, GroupEntry, Scenario, ScenarioFault, SystemEntry};
+use std::alloc::Global;
+
+/// A child of a group: a group or a system.
+#[derive(Clone, Copy, Debug)]
+pub(crate) struct Sibling {
+    /// Its name.
+    pub(crate) name: Name,
+    /// The group that it is a child of.
+    pub(crate) parent: Name,
+}
+
+fn group_sibling(group: &GroupEntry) -> Sibling
+    ensures { result ≡ group_sibling group.now }
+{
+    Sibling {
+        name: group.name,
+        parent: group.parent,
+    }
+}
+
+fn system_sibling(system: &SystemEntry) -> Sibling
+    ensures { result ≡ system_sibling system.now }
+{
+    Sibling {
+        name: system.name,
+        parent: system.group,
+    }
+}
+
+fn push_groups(children: &mut Vec<Sibling>, groups: &[GroupEntry]) -> Result<(), Memory>
+    ensures { IfOk result (λ _. children.new.items ≡ children.old.items ++ map group_sibling groups.now) }
+{
+    for group in groups {
+        children.push(group_sibling(group))?;
+    }
+    Ok(())
+}
+
+fn push_systems(children: &mut Vec<Sibling>, systems: &[SystemEntry]) -> Result<(), Memory>
+    ensures { IfOk result (λ _. children.new.items ≡ children.old.items ++ map system_sibling systems.now) }
+{
+    for system in systems {
+        children.push(system_sibling(system))?;
+    }
+    Ok(())
+}
+
+/// The children of all groups: the groups, then the systems.
+fn siblings_of(alloc: Global, scenario: &Scenario) -> Result<Vec<Sibling>, Memory>
+    ensures { IfOk result (λ all. all.items ≡ siblings_of scenario.now) }
+{
+    let mut children = Vec::new(alloc);
+    push_groups(&mut children, scenario.group.as_slice())?;
+    push_systems(&mut children, scenario.system.as_slice())?;
+    Ok(children)
+}
+
+/// The first child with this name.
+fn child_named(all: &[Sibling], name: &Name) -> Option<Sibling>
+    ensures { result ≡ find (λ other. same_name name.now other.name) all.now }
+{
+    for other in all {
+        if *name == other.name {
+            return Some(*other);
+        }
+    }
+    None
+}
+
+/// What is wrong with a child's ordering by another one: it is of another group, or the child itself.
+fn cause_between(child: &Sibling, other: Option<Sibling>) -> Option<Cause>
+    ensures { result ≡ cause_between child.now other }
+{
+    match other {
+        Some(other) => {
+            if child.parent == other.parent && child.name != other.name {
+                None
+            } else {
+                Some(Cause::NotSibling)
+            }
+        }
+        None => Some(Cause::UnknownName),
+    }
+}
+
+/// Passes where each of the names under a key is that of another child of the group.
+fn orders_by(
+    alloc: Global,
+    all: &[Sibling],
+    child: &Sibling,
+    key: &str,
+    names: &[Name],
+) -> Result<(), ScenarioFault>
+    ensures { Passes (order_fault_from all.now child.now key.now 0 names.now) result }
+{
+    for (j, name) in names.iter().enumerate() {
+        if let Some(cause) = cause_between(child, child_named(all, name)) {
+            return Err(at_element(alloc, key, j, bad(alloc, cause)));
+        }
+    }
+    Ok(())
+}
+
+/// Passes where a child orders itself by its siblings alone.
+fn order(
+    alloc: Global,
+    all: &[Sibling],
+    child: &Sibling,
+    before: &[Name],
+    after: &[Name],
+) -> Result<(), ScenarioFault>
+    ensures { Passes (order_fault all.now child.now before.now after.now) result }
+{
+    orders_by(alloc, all, child, "before", before)?;
+    orders_by(alloc, all, child, "after", after)
+}
+
+fn group_order(alloc: Global, all: &[Sibling], group: &GroupEntry) -> Result<(), ScenarioFault>
+    ensures { Passes (order_fault all.now (group_sibling group.now) group.now.before group.now.after) result }
+{
+    let child = group_sibling(group);
+    order(
+        alloc,
+        all,
+        &child,
+        group.before.as_slice(),
+        group.after.as_slice(),
+    )
+}
+
+fn system_order(alloc: Global, all: &[Sibling], system: &SystemEntry) -> Result<(), ScenarioFault>
+    ensures { Passes (order_fault all.now (system_sibling system.now) system.now.before system.now.after) result }
+{
+    let child = system_sibling(system);
+    order(
+        alloc,
+        all,
+        &child,
+        system.before.as_slice(),
+        system.after.as_slice(),
+    )
+}
+
+fn groups_order(alloc: Global, all: &[Sibling], groups: &[GroupEntry]) -> Result<(), ScenarioFault>
+    ensures { Passes (each_fault_from (codes "group") (λ g. order_fault all.now (group_sibling g) g.before g.after) 0 groups.now) result }
+{
+    for (i, group) in groups.iter().enumerate() {
+        if let Err(fault) = group_order(alloc, all, group) {
+            return Err(at_element(alloc, "group", i, fault));
+        }
+    }
+    Ok(())
+}
+
+fn systems_order(
+    alloc: Global,
+    all: &[Sibling],
+    systems: &[SystemEntry],
+) -> Result<(), ScenarioFault>
+    ensures { Passes (each_fault_from (codes "system") (λ y. order_fault all.now (system_sibling y) y.before y.after) 0 systems.now) result }
+{
+    for (i, system) in systems.iter().enumerate() {
+        if let Err(fault) = system_order(alloc, all, system) {
+            return Err(at_element(alloc, "system", i, fault));
+        }
+    }
+    Ok(())
+}
+
+/// Passes where each child orders itself by its siblings alone.
+#[tactic(auto, unfolding(crate::specs::Checks::siblings_fault))]
+pub(crate) fn siblings(alloc: Global, scenario: &Scenario) -> Result<(), ScenarioFault>
+    ensures { Passes (siblings_fault scenario.now) result }
+{
+    let all = siblings_of(alloc, scenario)?;
+    groups_order(alloc, all.as_slice(), scenario.group.as_slice())?;
+    systems_order(alloc, all.as_slice(), scenario.system.as_slice())
+}
