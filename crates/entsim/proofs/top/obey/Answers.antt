@@ -4,11 +4,8 @@ use Rattle.entsim.specs.Outcome.{command_outcome, unbuilt}
 use Rattle.entsim.proofs.Told.{told_gives}
 use Rattle.entsim.proofs.top.obey.Goals as goal
 
-pub returns-in-Check-clause-gives : goal.returns-in-Check-clause-gives
-returns-in-Check-clause-gives g c = told_gives _ (λ files. command_outcome files (command_view c.args.command)) unbuilt _ _ _ (λ files. rw c.in-Check.is refl) c.refuse_unbuilt.ensures.gives
-
 pub returns-in-Layout-clause-gives : goal.returns-in-Layout-clause-gives
-returns-in-Layout-clause-gives g c = told_gives _ (λ files. command_outcome files (command_view c.args.command)) unbuilt _ _ _ (λ files. rw c.in-Layout.is refl) c.refuse_unbuilt-in-Layout.ensures.gives
+returns-in-Layout-clause-gives g c = told_gives _ (λ files. command_outcome files (command_view c.args.command)) unbuilt _ _ _ (λ files. rw c.in-Layout.is refl) c.refuse_unbuilt.ensures.gives
 
 pub returns-in-Plan-clause-gives : goal.returns-in-Plan-clause-gives
 returns-in-Plan-clause-gives g c = told_gives _ (λ files. command_outcome files (command_view c.args.command)) unbuilt _ _ _ (λ files. rw c.in-Plan.is refl) c.refuse_unbuilt-in-Plan.ensures.gives
