@@ -181,10 +181,12 @@ system = [{ name = "S", all = ["P"], set = ["P.v = 1", "P.v = P.w"] }]
         b"error scenario cause=UnknownName key=system[0].set[1] at=8\n",
     ),
     (
-        Some(br#"frames = 1
+        Some(
+            br#"frames = 1
 type = [{ name = "P", fields = ["v:i32"] }]
 system = [{ name = "S", all = ["P"], set = ["P.v = get(self, P.v)"] }]
-"#),
+"#,
+        ),
         b"error scenario cause=LookupOfWritten key=system[0]\n",
     ),
     (

@@ -2,9 +2,8 @@ pub mod Steps
 pub mod FaultLemmas
 pub mod TypeLemmas
 pub mod WalkLemmas
-pub mod SetLemmas
 pub mod NameLemmas
 pub mod LabelLemmas
 pub mod SiblingLemmas
-pub mod LookupLemmas
+pub mod RowLemmas
 pub mod ReadLemmas

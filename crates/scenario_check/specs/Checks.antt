@@ -5,6 +5,7 @@ use Rattle.std.specs.Option.{option_map, option_map_or}
 use Rattle.ent_types.specs.declared.type_info.TypeInfo.{TypeInfo}
 use Rattle.ent_types.specs.Registries.{type_at}
 use Rattle.ent_types.specs.Types.{same_name, column_size}
+use Rattle.ent_types.specs.TypeSets.{meets}
 use Rattle.chunk_layout.specs.Capacity.{capacity_of}
 use Rattle.scenario_read.specs.declared.fault.Cause.{Cause}
 use Rattle.scenario_read.specs.declared.fault.Cause.TheVariants.{DuplicateName, UnknownName, NotSibling, TooLarge, TooManyEntities, LookupOfWritten}
@@ -18,7 +19,7 @@ use Rattle.scenario_read.specs.declared.record.EventAct.{EventAct}
 use Rattle.scenario_read.specs.declared.record.EventAct.TheVariants.{Operate, Load, Unload}
 use Rattle.scenario_read.specs.Faults.{bad, below_key, below_place}
 use Rattle.scenario_check.specs.declared.siblings.Sibling.{Sibling}
-use Rattle.scenario_check.specs.Touched.{written, looked_up}
+use Rattle.scenario_check.specs.Touched.{set_of, written, looked_up}
 
 -- ---- faults and their places
 
@@ -149,8 +150,8 @@ spawns_fault s = first_of (each_fault_from (codes "spawn") (spawn_fault s.regist
 -- ---- lookups
 
 -- the system looks up a type that it writes
-abbrev pub lookup_fault : SystemEntry → Option BadScenario
-lookup_fault y = if list_any (λ ty. list_any (λ w. w == ty) (written y)) (looked_up y) then Some (bad LookupOfWritten) else None
+unfoldable pub lookup_fault : SystemEntry → Option BadScenario
+lookup_fault y = if meets (set_of (looked_up y)) (set_of (written y)) then Some (bad LookupOfWritten) else None
 
 unfoldable pub lookups_fault : Scenario → Option BadScenario
 lookups_fault s = each_fault_from (codes "system") lookup_fault 0 s.system

@@ -1,7 +1,7 @@
 pub mod Touched
 pub mod Checks
 pub mod Planned
-pub mod Places
+pub mod Moves
 pub mod Read
 pub mod Walks
 pub mod Labels

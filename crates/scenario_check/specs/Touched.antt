@@ -1,5 +1,5 @@
 -- The types that the texts of a system name.
-use Rattle.std.specs.Prelude.{ℕ, List, [], ◌∷◌, ◌++◌, map, filter, flat_map, fold}
+use Rattle.std.specs.Prelude.{ℕ, List, [], ◌∷◌, ◌++◌, map, filter, flat_map, fold, nat_lt, if◌then◌else◌}
 use Rattle.ent_types.specs.declared.type_info.TypeInfo.{TypeInfo}
 use Rattle.ent_types.specs.Registries.{type_at}
 use Rattle.ent_types.specs.TypeSets.{with_type}
@@ -16,9 +16,13 @@ use Rattle.scenario_read.specs.declared.record.CommandEntry.{CommandEntry}
 use Rattle.scenario_read.specs.declared.record.SystemEntry.{SystemEntry}
 use Rattle.scenario_check.specs.declared.plan.Access.{Access}
 
+-- the set, and a type. Types have numbers below 256: a number that no type has is passed over.
+abbrev pub put_type : List ℕ → ℕ → List ℕ
+put_type set ty = if nat_lt ty 256 then with_type set ty else set
+
 -- the set of the types in a list
 abbrev pub set_of : List ℕ → List ℕ
-set_of types = fold (λ set ty. with_type set ty) [] types
+set_of types = fold put_type [] types
 
 -- ---- own fields and `on`
 

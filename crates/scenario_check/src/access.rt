@@ -1,12 +1,11 @@
 //! The types that a system touches.
-ghost use Rattle.std.specs.Prelude.{◌≡◌, ◌++◌, [], map, filter, true};
+ghost use Rattle.std.specs.Prelude.{◌≡◌, ◌++◌, map, filter};
 ghost use Rattle.ent_types.specs.Registries.{type_at};
 ghost use Rattle.scenario_check.specs.Touched.{written, named_types, access_of, looked_up, own_types, set_of};
-ghost use Rattle.scenario_check.specs.Walks.{with_types};
-ghost use Rattle.scenario_check.specs.Read.{are_types, names_types};
+ghost use Rattle.scenario_check.specs.Walks.{with_known};
 
 use crate::plan::Access;
-use crate::touched::{Wanted, in_texts};
+use crate::touched::{Wanted, in_texts, put};
 use ent_types::{Registry, TypeId, TypeSet};
 use expr_read::{Assign, Switch};
 use scenario_read::SystemEntry;
@@ -23,24 +22,22 @@ fn is_enableable(registry: &Registry, ty: TypeId) -> bool
 
 #[tactic(auto, using(crate::proofs::WalkLemmas::walks))]
 fn with_assigned(assigns: &[Assign], before: TypeSet) -> TypeSet
-    requires { are_types (map (λ a. a.ty.0) assigns.now) ≡ true }
-    ensures { result ≡ with_types before (map (λ a. a.ty.0) assigns.now) }
+    ensures { result ≡ with_known before (map (λ a. a.ty.0) assigns.now) }
 {
     let mut found = before;
     for assign in assigns {
-        found = found.with(assign.ty);
+        found = put(found, assign.ty);
     }
     found
 }
 
 #[tactic(auto, using(crate::proofs::WalkLemmas::walks))]
 fn with_switched(switches: &[Switch], before: TypeSet) -> TypeSet
-    requires { are_types (map (λ w. w.ty.0) switches.now) ≡ true }
-    ensures { result ≡ with_types before (map (λ w. w.ty.0) switches.now) }
+    ensures { result ≡ with_known before (map (λ w. w.ty.0) switches.now) }
 {
     let mut found = before;
     for switch in switches {
-        found = found.with(switch.ty);
+        found = put(found, switch.ty);
     }
     found
 }
@@ -48,7 +45,6 @@ fn with_switched(switches: &[Switch], before: TypeSet) -> TypeSet
 /// The types that a system writes.
 #[tactic(auto, using(crate::proofs::WalkLemmas::walks))]
 pub(crate) fn written(system: &SystemEntry) -> TypeSet
-    requires { are_types (written system.now) ≡ true }
     ensures { result ≡ set_of (written system.now) }
 {
     let found = with_assigned(system.set.as_slice(), TypeSet::empty());
@@ -56,9 +52,7 @@ pub(crate) fn written(system: &SystemEntry) -> TypeSet
 }
 
 /// The types that a system looks up.
-#[tactic(auto, using(crate::proofs::WalkLemmas::known))]
 pub(crate) fn looked_up(system: &SystemEntry) -> TypeSet
-    requires { are_types (looked_up system.now) ≡ true }
     ensures { result ≡ set_of (looked_up system.now) }
 {
     in_texts(Wanted::Lookups, system, TypeSet::empty())
@@ -67,11 +61,11 @@ pub(crate) fn looked_up(system: &SystemEntry) -> TypeSet
 /// The types of both sets.
 #[tactic(auto, using(crate::proofs::WalkLemmas::walks))]
 fn with_set(types: &TypeSet, before: TypeSet) -> TypeSet
-    ensures { result ≡ with_types before types.now }
+    ensures { result ≡ with_known before types.now }
 {
     let mut found = before;
     for ty in types.iter() {
-        found = found.with(ty);
+        found = put(found, ty);
     }
     found
 }
@@ -79,22 +73,20 @@ fn with_set(types: &TypeSet, before: TypeSet) -> TypeSet
 /// The set, and the enableable types of another set.
 #[tactic(auto, using(crate::proofs::WalkLemmas::walks))]
 fn with_enableable(registry: &Registry, types: &TypeSet, before: TypeSet) -> TypeSet
-    ensures { result ≡ with_types before (filter (λ ty. (type_at registry.now ty).enableable) types.now) }
+    ensures { result ≡ with_known before (filter (λ ty. (type_at registry.now ty).enableable) types.now) }
 {
     let mut found = before;
     for ty in types.iter() {
         if is_enableable(registry, ty) {
-            found = found.with(ty);
+            found = put(found, ty);
         }
     }
     found
 }
 
 /// The types that a system reads: those of its texts, and of its change filter.
-#[tactic(auto, using(crate::proofs::WalkLemmas::known))]
+#[tactic(auto, using(crate::proofs::WalkLemmas::walks))]
 fn read_by(system: &SystemEntry) -> TypeSet
-    requires own { are_types (own_types system.now) ≡ true }
-    requires looked { are_types (looked_up system.now) ≡ true }
     ensures { result ≡ set_of (own_types system.now ++ (looked_up system.now ++ system.now.changed)) }
 {
     let found = in_texts(Wanted::Own, system, TypeSet::empty());
@@ -115,9 +107,7 @@ fn named_by(registry: &Registry, system: &SystemEntry) -> TypeSet
 }
 
 /// The types that a system touches.
-#[tactic(auto, using(crate::proofs::WalkLemmas::parts))]
 pub(crate) fn access_of(registry: &Registry, system: &SystemEntry) -> Access
-    requires { names_types system.now ≡ true }
     ensures { result ≡ access_of registry.now system.now }
 {
     Access {

@@ -3,7 +3,7 @@ ghost use Rattle.std.specs.Prelude.{◌≡◌, drop};
 ghost use Rattle.scenario_read.specs.Faults.{Answers, Passes};
 ghost use Rattle.scenario_check.specs.Checks.{first_fault};
 ghost use Rattle.scenario_check.specs.Planned.{passed, planned, checked};
-ghost use Rattle.scenario_check.specs.Places.{IsMoved, without_dot};
+ghost use Rattle.scenario_check.specs.Moves.{IsMoved, without_dot};
 ghost use Rattle.scenario_check.specs.Read.{IsRead};
 
 use crate::events::events;

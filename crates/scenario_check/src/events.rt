@@ -6,7 +6,7 @@ ghost use Rattle.scenario_read.specs.declared.fault.ScenarioFault.TheVariants.{B
 ghost use Rattle.scenario_read.specs.Faults.{Passes, bad, below_key};
 ghost use Rattle.scenario_check.specs.Checks.{label_of, event_fault_from, events_fault};
 ghost use Rattle.scenario_check.specs.Labels.{HasLabels, has_label, fault_by};
-ghost use Rattle.scenario_check.specs.Places.{IsMoved};
+ghost use Rattle.scenario_check.specs.Moves.{IsMoved};
 
 use crate::places::{at_element, bad, below_key};
 use ent_types::{Memory, Name};

@@ -1,8 +1,7 @@
 //! The types that systems look up: none of those that the system writes.
-ghost use Rattle.std.specs.Prelude.{◌≡◌, codes, true, All};
+ghost use Rattle.std.specs.Prelude.{codes};
 ghost use Rattle.scenario_read.specs.Faults.{Passes};
 ghost use Rattle.scenario_check.specs.Checks.{each_fault_from, lookup_fault, lookups_fault};
-ghost use Rattle.scenario_check.specs.Read.{names_types};
 
 use crate::access::{looked_up, written};
 use crate::places::{at_element, bad};
@@ -10,8 +9,8 @@ use scenario_read::{Cause, Scenario, ScenarioFault, SystemEntry};
 use std::alloc::Global;
 
 /// Passes where a system looks up no type that it writes.
+#[tactic(auto, unfolding(crate::specs::Checks::lookup_fault))]
 fn looks_elsewhere(alloc: Global, system: &SystemEntry) -> Result<(), ScenarioFault>
-    requires { names_types system.now ≡ true }
     ensures { Passes (lookup_fault system.now) result }
 {
     if looked_up(system).meets(&written(system)) {
@@ -21,7 +20,6 @@ fn looks_elsewhere(alloc: Global, system: &SystemEntry) -> Result<(), ScenarioFa
 }
 
 fn each_looks_elsewhere(alloc: Global, systems: &[SystemEntry]) -> Result<(), ScenarioFault>
-    requires { All (λ y. names_types y ≡ true) systems.now }
     ensures { Passes (each_fault_from (codes "system") lookup_fault 0 systems.now) result }
 {
     for (i, system) in systems.iter().enumerate() {
@@ -35,7 +33,6 @@ fn each_looks_elsewhere(alloc: Global, systems: &[SystemEntry]) -> Result<(), Sc
 /// Passes where no system looks up a type that it writes.
 #[tactic(auto, unfolding(crate::specs::Checks::lookups_fault))]
 pub(crate) fn lookups(alloc: Global, scenario: &Scenario) -> Result<(), ScenarioFault>
-    requires { All (λ y. names_types y ≡ true) scenario.now.system }
     ensures { Passes (lookups_fault scenario.now) result }
 {
     each_looks_elsewhere(alloc, scenario.system.as_slice())

@@ -4,7 +4,7 @@ ghost use Rattle.std.specs.Fmt.{decimal};
 ghost use Rattle.scenario_read.specs.declared.fault.ScenarioFault.TheVariants.{Bad};
 ghost use Rattle.scenario_read.specs.Faults.{bad, below_key, below_place};
 ghost use Rattle.scenario_check.specs.Checks.{at_element, at_key_of};
-ghost use Rattle.scenario_check.specs.Places.{IsMoved};
+ghost use Rattle.scenario_check.specs.Moves.{IsMoved};
 
 use ent_types::{Memory, Sequence};
 use itoa::Buffer;

@@ -1,11 +1,11 @@
 //! The plan of a scenario that passes its checks.
-ghost use Rattle.std.specs.Prelude.{◌≡◌, ◌++◌, ◌≤◌, length, map, true, All, IfOk};
+ghost use Rattle.std.specs.Prelude.{◌≡◌, ◌++◌, map, IfOk};
 ghost use Rattle.std.specs.List.{range_with_len};
 ghost use Rattle.scenario_read.specs.Faults.{Answers};
 ghost use Rattle.scenario_check.specs.declared.plan.Step.TheVariants.{Run};
 ghost use Rattle.scenario_check.specs.Touched.{access_of};
 ghost use Rattle.scenario_check.specs.Planned.{steps_of, planned, plan_of};
-ghost use Rattle.scenario_check.specs.Read.{IsRead, names_types};
+ghost use Rattle.scenario_check.specs.Read.{IsRead};
 
 use crate::access::access_of;
 use crate::places::bad;
@@ -46,7 +46,6 @@ fn access_of_each(
     registry: &Registry,
     systems: &[SystemEntry],
 ) -> Result<Sequence<Access>, Memory>
-    requires { All (λ y. names_types y ≡ true) systems.now }
     ensures { IfOk result (λ access. access ≡ map (access_of registry.now) systems.now) }
 {
     let mut access = Sequence::new(alloc);

@@ -1,16 +1,22 @@
 //! What is made before the first frame: each row fits into a block, and all rows can be alive together.
-ghost use Rattle.std.specs.Prelude.{◌≡◌, ◌+◌, ◌≤◌, ◌<◌, length, map, codes, All, IfOk};
+ghost use Rattle.std.specs.Prelude.{◌≡◌, ◌≤◌, nat_lt, map, codes};
 ghost use Rattle.ent_types.specs.Registries.{type_at};
 ghost use Rattle.ent_types.specs.Types.{column_size};
+ghost use Rattle.chunk_layout.specs.Capacity.{column_bytes, block_bytes};
 ghost use Rattle.scenario_read.specs.Faults.{Passes};
-ghost use Rattle.scenario_check.specs.Checks.{each_fault_from, sizes_of, spawn_fault, crowded_from, spawns_fault};
+ghost use Rattle.scenario_check.specs.Checks.{each_fault_from, spawn_fault, crowded_from, spawns_fault};
 
 use crate::places::{at_element, bad};
-use chunk_layout::layout;
-use ent_types::{Memory, Registry, TypeId};
+use ent_types::{Registry, TypeId};
 use expr_read::PartExpr;
 use scenario_read::{Cause, Scenario, ScenarioFault, SpawnEntry};
 use std::alloc::Global;
+
+/// The bytes of the column of ids, for one row.
+const ID_BYTES: u32 = 64;
+
+/// The bytes of a block beside its header.
+const COLUMN_ROOM: u32 = 16_320;
 
 /// The greatest number of entities that can be alive together.
 const MOST_ENTITIES: u32 = 1_048_576;
@@ -27,33 +33,43 @@ fn column_size(registry: &Registry, ty: TypeId) -> u32
     registry.info(ty).column_size()
 }
 
-/// The bytes that a row takes in each column.
-fn sizes_of(alloc: Global, registry: &Registry, parts: &[PartExpr]) -> Result<Vec<u32>, Memory>
-    ensures value { IfOk result (λ sizes. sizes.items ≡ map (λ part. column_size (type_at registry.now part.ty.0)) parts.now) }
-    ensures small { IfOk result (λ sizes. All (λ size. size ≤ 512) sizes.items) }
+/// The bytes of a column of one row: a multiple of 64.
+fn column_bytes(size: u32) -> u32
+    requires { size ≤ 512 }
+    ensures value { result ≡ column_bytes 1 size }
+    ensures most { result ≤ 512 }
 {
-    let mut sizes = Vec::new(alloc);
+    size.next_multiple_of(64)
+}
+
+/// Says whether the columns of one row, with the column of its id, take more bytes than a block has for them.
+#[tactic(auto, using(crate::proofs::RowLemmas::sums))]
+fn is_too_large(registry: &Registry, parts: &[PartExpr]) -> bool
+    ensures { result ≡ nat_lt 16320 (block_bytes (map (λ part. column_size (type_at registry.now part.ty.0)) parts.now) 1) }
+{
+    let mut bytes = ID_BYTES;
     for part in parts {
-        sizes.push(column_size(registry, part.ty))?;
+        bytes += column_bytes(column_size(registry, part.ty));
+        if bytes > COLUMN_ROOM {
+            return true;
+        }
     }
-    Ok(sizes)
+    false
 }
 
 /// Passes where a row of a spawn fits into a block.
+#[tactic(auto, using(crate::proofs::RowLemmas::rows))]
 fn fits(alloc: Global, registry: &Registry, spawn: &SpawnEntry) -> Result<(), ScenarioFault>
-    requires { length spawn.now.parts ≤ 256 }
     ensures { Passes (spawn_fault registry.now spawn.now) result }
 {
-    let sizes = sizes_of(alloc, registry, spawn.parts.as_slice())?;
-    match layout(sizes.as_slice()) {
-        Some(_) => Ok(()),
-        None => Err(bad(alloc, Cause::TooLarge)),
+    if is_too_large(registry, spawn.parts.as_slice()) {
+        return Err(bad(alloc, Cause::TooLarge));
     }
+    Ok(())
 }
 
 /// Passes where a row of each spawn fits into a block.
 fn each_fits(alloc: Global, registry: &Registry, spawns: &[SpawnEntry]) -> Result<(), ScenarioFault>
-    requires { All (λ p. length p.parts ≤ 256) spawns.now }
     ensures { Passes (each_fault_from (codes "spawn") (spawn_fault registry.now) 0 spawns.now) result }
 {
     for (i, spawn) in spawns.iter().enumerate() {
@@ -82,7 +98,6 @@ fn all_fit(alloc: Global, spawns: &[SpawnEntry]) -> Result<(), ScenarioFault>
 /// Passes where a row of each spawn fits into a block and all rows can be alive together.
 #[tactic(auto, unfolding(crate::specs::Checks::spawns_fault))]
 pub(crate) fn spawns(alloc: Global, scenario: &Scenario) -> Result<(), ScenarioFault>
-    requires { All (λ p. length p.parts ≤ 256) scenario.now.spawn }
     ensures { Passes (spawns_fault scenario.now) result }
 {
     let spawns = scenario.spawn.as_slice();

@@ -1,7 +1,7 @@
 //! The types that the texts of a system name: those of the own row, and those that it looks up.
 ghost use Rattle.std.specs.Prelude.{◌≡◌, ◌++◌, flat_map};
-ghost use Rattle.scenario_check.specs.Touched.{own_in, own_in_ref, looked_in, in_value, in_part, in_act, in_command, in_texts};
-ghost use Rattle.scenario_check.specs.Walks.{put_type, with_known, expr_types, ref_types};
+ghost use Rattle.scenario_check.specs.Touched.{put_type, own_in, own_in_ref, looked_in, in_value, in_part, in_act, in_command, in_texts};
+ghost use Rattle.scenario_check.specs.Walks.{with_known, expr_types, ref_types};
 
 use ent_types::{TypeId, TypeSet};
 use expr_read::{Assign, CommandText, Expr, PartExpr, RefExpr, Switch, ValueExpr};
@@ -20,7 +20,7 @@ pub(crate) enum Wanted {
 }
 
 /// The set, and the type. A number that no type has is passed over.
-fn put(found: TypeSet, ty: TypeId) -> TypeSet
+pub(crate) fn put(found: TypeSet, ty: TypeId) -> TypeSet
     ensures { result ≡ put_type found ty.0 }
 {
     if ty.0 >= MOST_TYPES {
