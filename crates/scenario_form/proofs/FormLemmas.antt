@@ -1,5 +1,5 @@
 -- What each scenario of the form that is run keeps to.
-use Rattle.std.proofs.Common.{ℕ, ◌≡◌, ◌≤◌, ◌&&◌, List, [], ◌∷◌, ◌++◌, true, cond, length, Option, None, Some, Ok, codes, All, pos, refl, subst, arith}
+use Rattle.std.proofs.Common.{ℕ, ◌≡◌, ◌≤◌, ◌&&◌, List, [], ◌∷◌, ◌++◌, true, cond, length, Option, None, Some, Ok, codes, All, pos, refl, subst, arith, false}
 use Rattle.std.specs.Prelude.{nat_le, map, sum_by, option_map, option_and_then}
 use Rattle.std.proofs.lemmas.Bool.{leb-true, and_parts}
 use Rattle.std.proofs.lemmas.List.Elements.{All-nil, All-cons}
