@@ -48,7 +48,7 @@ passed_outcome Run bytes s = form_outcome (form_of bytes)
 passed_outcome Check bytes s = done (ok_line s)
 
 abbrev pub checked_outcome : Task → List ℕ → Scenario → Result Plan BadScenario → Outcome
-checked_outcome task bytes s (Ok plan) = passed_outcome task bytes s
+checked_outcome task bytes s (Ok _) = passed_outcome task bytes s
 checked_outcome task bytes s (Err fault) = refused (fault_line fault)
 
 -- a scenario at fault is refused, by what is read or by its checks

@@ -8,7 +8,7 @@
 #![tactic(auto)]
 
 use anyhow::{Context, Result, bail};
-use scenario_check::check;
+use scenario_check::{check, what_is_read_can_be_checked};
 use scenario_read::{BadScenario, Cause, ScenarioFault, read_scenario};
 use std::alloc::Global;
 use std::process::ExitCode;
@@ -55,6 +55,7 @@ fn try_scenario<R: Print + AllocGlobal>(rt: &R, text: &str) -> Result<()> {
 
 /// The first fault of a scenario, as it is read or checked.
 fn read_and_check(alloc: Global, text: &str) -> Result<(), ScenarioFault> {
+    what_is_read_can_be_checked();
     let scenario = read_scenario(alloc, text.as_bytes())?;
     check(alloc, &scenario)?;
     Ok(())
