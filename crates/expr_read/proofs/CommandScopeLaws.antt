@@ -6,8 +6,8 @@ use Rattle.ent_types.specs.declared.type_info.TypeInfo.{TypeInfo}
 use Rattle.ent_types.specs.Registries.{type_at, type_id_named, IsLawfulRegistry}
 use Rattle.expr_read.specs.declared.scope.TextPlace.{TextPlace}
 use Rattle.expr_read.specs.declared.scope.Made.{Made}
-use Rattle.expr_read.specs.declared.words.TypeUse.{TypeUse}
-use Rattle.expr_read.specs.CommandScopes.{ServesCommands}
+use Rattle.expr_grammar.specs.declared.words.TypeUse.{TypeUse}
+use Rattle.expr_grammar.specs.CommandScopes.{ServesCommands}
 use Rattle.expr_read.specs.ScopeOf.{some_type_from, allows_of, is_listed, has_type_left, scope_of}
 use Rattle.expr_read.proofs.NewNames.{new_name}
 use Rattle.expr_read.proofs.ScopeLaws.{found}

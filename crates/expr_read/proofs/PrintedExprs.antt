@@ -8,22 +8,22 @@ use Rattle.ent_types.specs.Registries.{IsLawfulRegistry}
 use Rattle.expr_tokens.specs.declared.sign.Sign.{Sign}
 use Rattle.expr_tokens.specs.declared.sign.Sign.TheVariants as signs
 use Rattle.expr_tokens.specs.Tokens.{Token, sign, spelling, AreTokens}
-use Rattle.expr_read.specs.declared.tree.Expr.{Expr}
-use Rattle.expr_read.specs.declared.tree.Expr.TheOpen.{Expr-F}
-use Rattle.expr_read.specs.declared.tree.Expr.TheFolds.{fold-roll-Expr, ind-Expr, map-Expr}
-use Rattle.expr_read.specs.declared.tree.Expr.TheViews.{roll-Expr}
-use Rattle.expr_read.specs.declared.tree.Expr.TheVariants as exprs
-use Rattle.expr_read.specs.declared.tree.UnaryOp.{UnaryOp}
-use Rattle.expr_read.specs.declared.tree.UnaryOp.TheVariants as unary
-use Rattle.expr_read.specs.declared.tree.BinaryOp.{BinaryOp}
-use Rattle.expr_read.specs.declared.tree.BinaryOp.TheVariants as binary
-use Rattle.expr_read.specs.Fitting.{Fits}
-use Rattle.expr_read.specs.Grammar.{group, signed, named, two, pick, spell}
-use Rattle.expr_read.specs.Meaning.{meaning}
+use Rattle.expr_trees.specs.declared.tree.Expr.{Expr}
+use Rattle.expr_trees.specs.declared.tree.Expr.TheOpen.{Expr-F}
+use Rattle.expr_trees.specs.declared.tree.Expr.TheFolds.{fold-roll-Expr, ind-Expr, map-Expr}
+use Rattle.expr_trees.specs.declared.tree.Expr.TheViews.{roll-Expr}
+use Rattle.expr_trees.specs.declared.tree.Expr.TheVariants as exprs
+use Rattle.expr_trees.specs.declared.tree.UnaryOp.{UnaryOp}
+use Rattle.expr_trees.specs.declared.tree.UnaryOp.TheVariants as unary
+use Rattle.expr_trees.specs.declared.tree.BinaryOp.{BinaryOp}
+use Rattle.expr_trees.specs.declared.tree.BinaryOp.TheVariants as binary
+use Rattle.expr_grammar.specs.Fitting.{Fits}
+use Rattle.expr_grammar.specs.Grammar.{group, signed, named, two, pick, spell}
+use Rattle.expr_grammar.specs.Meaning.{meaning}
 use Rattle.expr_read.specs.Printing.{anywhere, Prints}
 use Rattle.expr_read.specs.PrintedTexts.{between, expr_text, is_int, is_named_field, is_named_type, is_spelled, is_spelled_ref, leaves_step, opening, sign_opening, text_step}
 use Rattle.expr_read.specs.ScopeOf.{system_call}
-use Rattle.expr_read.specs.declared.words.Call.TheVariants as calls
+use Rattle.expr_grammar.specs.declared.words.Call.TheVariants as calls
 use Rattle.expr_read.proofs.PrintedTokens.{Lexes, Ends, lex_end, lex_space, lex_single, lex_open, lex_close, lex_comma}
 use Rattle.expr_read.proofs.PrintedTrees.{after_five, after_seven, after_three, as_And, as_Divide, as_Equal, as_Greater, as_GreaterEqual, as_Less, as_LessEqual, as_Minus, as_NotEqual, as_Or, as_Plus, as_Rest, as_Times, fits_joined, fits_whole, joined, lex_call, meaning_joined, spell_joined, whole, Infix, Printed}
 use Rattle.expr_read.proofs.PrintedLeaves.{printed_alive, printed_get, printed_has, printed_number, printed_on, printed_own, printed_same, printed_variable}

@@ -7,14 +7,14 @@ use Rattle.ent_types.specs.declared.entity.TypeId.{TypeId}
 use Rattle.ent_types.specs.declared.entity.Entity.{Entity}
 use Rattle.ent_types.specs.declared.type_info.TypeInfo.{TypeInfo}
 use Rattle.ent_types.specs.Registries.{IsLawfulRegistry}
-use Rattle.expr_read.specs.declared.tree.Expr.TheVariants as exprs
-use Rattle.expr_read.specs.declared.tree.RefExpr.{RefExpr}
-use Rattle.expr_read.specs.declared.tree.RefExpr.TheVariants as refs
-use Rattle.expr_read.specs.declared.tree.Variable.{Variable}
-use Rattle.expr_read.specs.Grammar.{plain, own, entity, called, expr, Syntax, number, named, alone, field, get, alive, has, same, on, spell, spell_ref}
-use Rattle.expr_read.specs.Meaning.{meaning_ref}
+use Rattle.expr_trees.specs.declared.tree.Expr.TheVariants as exprs
+use Rattle.expr_trees.specs.declared.tree.RefExpr.{RefExpr}
+use Rattle.expr_trees.specs.declared.tree.RefExpr.TheVariants as refs
+use Rattle.expr_trees.specs.declared.tree.Variable.{Variable}
+use Rattle.expr_grammar.specs.Grammar.{plain, own, entity, called, expr, Syntax, number, named, alone, field, get, alive, has, same, on, spell, spell_ref}
+use Rattle.expr_grammar.specs.Meaning.{meaning_ref}
 use Rattle.expr_read.specs.PrintedTexts.{field_at, field_text, is_int, is_named_field, is_named_type, is_spelled_ref, ref_text, type_name, variable_word}
-use Rattle.expr_read.specs.declared.words.FieldUse.TheVariants as uses
+use Rattle.expr_grammar.specs.declared.words.FieldUse.TheVariants as uses
 use Rattle.expr_read.proofs.PrintedNames.{type_found, field_found}
 use Rattle.expr_read.proofs.PrintedTokens.{Lexes, lex_name, lex_number, lex_close, lex_comma, lex_colon}
 use Rattle.expr_read.proofs.PrintedTrees.{after_five, after_three, fits_whole, lex_call, lex_field, variable_facts, whole, Printed, PrintedRef}

@@ -9,7 +9,7 @@ use Rattle.ent_types.specs.Types.{field_named}
 use Rattle.ent_types.specs.Registries.{type_at, type_id_named, IsLawfulRegistry}
 use Rattle.ent_types.proofs.LawfulTypes.{are_distinct-lawful, is_lawful_type-at}
 use Rattle.expr_read.specs.declared.scope.TextPlace.TheVariants.{System}
-use Rattle.expr_read.specs.declared.words.FieldUse.{FieldUse}
+use Rattle.expr_grammar.specs.declared.words.FieldUse.{FieldUse}
 use Rattle.expr_read.specs.ScopeOf.{is_known}
 use Rattle.expr_read.specs.Printing.{any_field}
 use Rattle.expr_read.specs.PrintedTexts.{field_at, is_field, type_name}

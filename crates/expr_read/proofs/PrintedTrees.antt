@@ -7,16 +7,16 @@ use Rattle.ent_types.specs.Names.{is_name}
 use Rattle.expr_tokens.specs.declared.sign.Sign.{Sign}
 use Rattle.expr_tokens.specs.declared.sign.Sign.TheVariants as signs
 use Rattle.expr_tokens.specs.Tokens.{Token, word, sign, spelling}
-use Rattle.expr_read.specs.declared.tree.Expr.{Expr}
-use Rattle.expr_read.specs.declared.tree.Expr.TheVariants as exprs
-use Rattle.expr_read.specs.declared.tree.RefExpr.{RefExpr}
-use Rattle.expr_read.specs.declared.tree.BinaryOp.{BinaryOp}
-use Rattle.expr_read.specs.declared.tree.BinaryOp.TheVariants as binary
-use Rattle.expr_read.specs.declared.tree.Variable.{Variable}
-use Rattle.expr_read.specs.declared.tree.Variable.TheVariants as variables
-use Rattle.expr_read.specs.Fitting.{Fits, FitsExpr, FitsRef, operator_of, associates, MayGoOn}
-use Rattle.expr_read.specs.Grammar.{Ref, operand, expr, Syntax, lone, chain, stop, more, spell, spell_ref}
-use Rattle.expr_read.specs.Meaning.{meaning, meaning_ref}
+use Rattle.expr_trees.specs.declared.tree.Expr.{Expr}
+use Rattle.expr_trees.specs.declared.tree.Expr.TheVariants as exprs
+use Rattle.expr_trees.specs.declared.tree.RefExpr.{RefExpr}
+use Rattle.expr_trees.specs.declared.tree.BinaryOp.{BinaryOp}
+use Rattle.expr_trees.specs.declared.tree.BinaryOp.TheVariants as binary
+use Rattle.expr_trees.specs.declared.tree.Variable.{Variable}
+use Rattle.expr_trees.specs.declared.tree.Variable.TheVariants as variables
+use Rattle.expr_grammar.specs.Fitting.{Fits, FitsExpr, FitsRef, operator_of, associates, MayGoOn}
+use Rattle.expr_grammar.specs.Grammar.{Ref, operand, expr, Syntax, lone, chain, stop, more, spell, spell_ref}
+use Rattle.expr_grammar.specs.Meaning.{meaning, meaning_ref}
 use Rattle.expr_read.specs.Printing.{anywhere}
 use Rattle.expr_read.specs.PrintedTexts.{between, field_at, field_text, is_named_field, opening, type_name, variable_word}
 use Rattle.expr_read.proofs.PrintedTokens.{Lexes, Ends, lex_name, lex_single, lex_pair, lex_open, lex_dot}

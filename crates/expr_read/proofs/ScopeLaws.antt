@@ -18,10 +18,10 @@ use Rattle.ent_types.proofs.Lookups.{list_any-map}
 use Rattle.ent_types.proofs.LawfulTypes.{are_distinct-lawful, is_lawful_type-at, disabled-at, scene_tag-at}
 use Rattle.expr_read.specs.declared.scope.TextPlace.{TextPlace}
 use Rattle.expr_read.specs.declared.scope.Made.{Made}
-use Rattle.expr_read.specs.declared.words.FieldUse.{FieldUse}
-use Rattle.expr_read.specs.declared.words.FieldUse.TheVariants.{Looked}
-use Rattle.expr_read.specs.declared.words.TypeUse.TheVariants.{Asked, Own}
-use Rattle.expr_read.specs.Scopes.{IsLawful}
+use Rattle.expr_grammar.specs.declared.words.FieldUse.{FieldUse}
+use Rattle.expr_grammar.specs.declared.words.FieldUse.TheVariants.{Looked}
+use Rattle.expr_grammar.specs.declared.words.TypeUse.TheVariants.{Asked, Own}
+use Rattle.expr_grammar.specs.Scopes.{IsLawful}
 use Rattle.expr_read.specs.ScopeOf.{suits, suited_field, is_open, field_of, has_field, allows_of, scope_of}
 
 -- ---- what bears one of some distinct names is found by it

@@ -1,12 +1,12 @@
 -- Types that are left, where they are looked for one after another.
-use Rattle.std.proofs.Common.{ℕ, ◌≡◌, ◌<◌, ◌≤◌, ◌+◌, List, [], ◌∷◌, Bool, true, false, ◌||◌, length, get_or, drop, refl, sym, ap, ◌∙◌}
+use Rattle.std.proofs.Common.{ℕ, ◌≡◌, ◌<◌, ◌≤◌, ◌+◌, List, [], ◌∷◌, Bool, true, false, ◌||◌, length, drop, refl, ap, ◌∙◌}
 use Rattle.std.proofs.lemmas.List.{drop_more, drop_all}
 use Rattle.std.specs.Prelude.{◌==◌}
 use Rattle.ent_types.specs.TypeSets.{has_type}
 use Rattle.ent_types.specs.Registries.{plain_tag}
 use Rattle.ent_types.specs.declared.entity.TypeId.{TypeId}
 use Rattle.ent_types.specs.declared.type_info.TypeInfo.{TypeInfo}
-use Rattle.expr_read.specs.Machine.{ids}
+use Rattle.expr_grammar.specs.Machine.{ids}
 use Rattle.expr_read.specs.ScopeOf.{some_type_from, is_listed}
 
 pub listed : (used : List ℕ) (ty : TypeId) → has_type used ty.0 ≡ is_listed (ids used) ty

@@ -7,16 +7,16 @@ use Rattle.ent_types.specs.declared.type_info.TypeInfo.{TypeInfo}
 use Rattle.ent_types.specs.declared.type_info.FieldInfo.{FieldInfo}
 use Rattle.ent_types.specs.Names.{is_name}
 use Rattle.ent_types.specs.Registries.{type_at}
-use Rattle.expr_read.specs.declared.tree.Expr.{Expr, fold-Expr}
-use Rattle.expr_read.specs.declared.tree.Expr.TheOpen.{Expr-F}
-use Rattle.expr_read.specs.declared.tree.RefExpr.{RefExpr}
-use Rattle.expr_read.specs.declared.tree.RefExpr.TheVariants as refs
-use Rattle.expr_read.specs.declared.tree.UnaryOp.{UnaryOp}
-use Rattle.expr_read.specs.declared.tree.UnaryOp.TheVariants as unary
-use Rattle.expr_read.specs.declared.tree.BinaryOp.{BinaryOp}
-use Rattle.expr_read.specs.declared.tree.BinaryOp.TheVariants as binary
-use Rattle.expr_read.specs.declared.tree.Variable.{Variable}
-use Rattle.expr_read.specs.declared.tree.Variable.TheVariants as variables
+use Rattle.expr_trees.specs.declared.tree.Expr.{Expr, fold-Expr}
+use Rattle.expr_trees.specs.declared.tree.Expr.TheOpen.{Expr-F}
+use Rattle.expr_trees.specs.declared.tree.RefExpr.{RefExpr}
+use Rattle.expr_trees.specs.declared.tree.RefExpr.TheVariants as refs
+use Rattle.expr_trees.specs.declared.tree.UnaryOp.{UnaryOp}
+use Rattle.expr_trees.specs.declared.tree.UnaryOp.TheVariants as unary
+use Rattle.expr_trees.specs.declared.tree.BinaryOp.{BinaryOp}
+use Rattle.expr_trees.specs.declared.tree.BinaryOp.TheVariants as binary
+use Rattle.expr_trees.specs.declared.tree.Variable.{Variable}
+use Rattle.expr_trees.specs.declared.tree.Variable.TheVariants as variables
 use Rattle.expr_read.specs.ScopeOf.{is_known}
 
 -- ---- pieces

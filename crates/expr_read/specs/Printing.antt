@@ -5,18 +5,18 @@ use Rattle.ent_types.specs.declared.type_info.TypeInfo.{TypeInfo}
 use Rattle.ent_types.specs.Registries.{type_id_named, type_at}
 use Rattle.ent_types.specs.Types.{field_named, same_name}
 use Rattle.expr_tokens.specs.Tokens.{Placed, AreTokens}
-use Rattle.expr_read.specs.declared.tree.Expr.{Expr}
-use Rattle.expr_read.specs.declared.tree.RefExpr.{RefExpr}
-use Rattle.expr_read.specs.declared.tree.RefExpr.TheVariants.{Null, Me}
-use Rattle.expr_read.specs.declared.tree.Variable.{Variable}
-use Rattle.expr_read.specs.declared.tree.Variable.TheVariants.{N}
-use Rattle.expr_read.specs.declared.words.FieldUse.{FieldUse}
-use Rattle.expr_read.specs.Fitting.{FitsExpr}
-use Rattle.expr_read.specs.Grammar.{Syntax, expr, spell}
-use Rattle.expr_read.specs.Meaning.{meaning}
+use Rattle.expr_trees.specs.declared.tree.Expr.{Expr}
+use Rattle.expr_trees.specs.declared.tree.RefExpr.{RefExpr}
+use Rattle.expr_trees.specs.declared.tree.RefExpr.TheVariants.{Null, Me}
+use Rattle.expr_trees.specs.declared.tree.Variable.{Variable}
+use Rattle.expr_trees.specs.declared.tree.Variable.TheVariants.{N}
+use Rattle.expr_grammar.specs.declared.words.FieldUse.{FieldUse}
+use Rattle.expr_grammar.specs.Fitting.{FitsExpr}
+use Rattle.expr_grammar.specs.Grammar.{Syntax, expr, spell}
+use Rattle.expr_grammar.specs.Meaning.{meaning}
 use Rattle.expr_read.specs.PrintedTexts.{is_printable}
 use Rattle.expr_read.specs.ScopeOf.{is_known, is_listed, is_new_name, is_ref_at, refs_of, some_type_from, system_call, system_variable}
-use Rattle.expr_read.specs.Scopes.{Scope}
+use Rattle.expr_grammar.specs.Scopes.{Scope}
 
 abbrev pub any_variable : List ℕ → Option Variable
 any_variable name = if same_name name (codes "n") then Some N else system_variable name

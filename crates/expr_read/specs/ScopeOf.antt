@@ -13,18 +13,18 @@ use Rattle.ent_types.specs.TypeSets.{has_type}
 use Rattle.expr_read.specs.declared.scope.TextPlace.{TextPlace}
 use Rattle.expr_read.specs.declared.scope.TextPlace.TheVariants.{Spawn, Event, System}
 use Rattle.expr_read.specs.declared.scope.Made.{Made}
-use Rattle.expr_read.specs.declared.tree.BinaryOp.TheVariants.{Min, Max}
-use Rattle.expr_read.specs.declared.tree.RefExpr.{RefExpr}
-use Rattle.expr_read.specs.declared.tree.RefExpr.TheVariants as refs
-use Rattle.expr_read.specs.declared.tree.Variable.{Variable}
-use Rattle.expr_read.specs.declared.tree.Variable.TheVariants.{Frame, Chunk, Row, Index, Version, N}
-use Rattle.expr_read.specs.declared.words.Call.{Call}
-use Rattle.expr_read.specs.declared.words.Call.TheVariants as calls
-use Rattle.expr_read.specs.declared.words.FieldUse.{FieldUse}
-use Rattle.expr_read.specs.declared.words.FieldUse.TheVariants.{Number, Entity, Looked, Assigned}
-use Rattle.expr_read.specs.declared.words.TypeUse.{TypeUse}
-use Rattle.expr_read.specs.declared.words.TypeUse.TheVariants.{Asked, Own, Switched, Removed, Enabled, Added, Set, Shared}
-use Rattle.expr_read.specs.Scopes.{Scope}
+use Rattle.expr_trees.specs.declared.tree.BinaryOp.TheVariants.{Min, Max}
+use Rattle.expr_trees.specs.declared.tree.RefExpr.{RefExpr}
+use Rattle.expr_trees.specs.declared.tree.RefExpr.TheVariants as refs
+use Rattle.expr_trees.specs.declared.tree.Variable.{Variable}
+use Rattle.expr_trees.specs.declared.tree.Variable.TheVariants.{Frame, Chunk, Row, Index, Version, N}
+use Rattle.expr_grammar.specs.declared.words.Call.{Call}
+use Rattle.expr_grammar.specs.declared.words.Call.TheVariants as calls
+use Rattle.expr_grammar.specs.declared.words.FieldUse.{FieldUse}
+use Rattle.expr_grammar.specs.declared.words.FieldUse.TheVariants.{Number, Entity, Looked, Assigned}
+use Rattle.expr_grammar.specs.declared.words.TypeUse.{TypeUse}
+use Rattle.expr_grammar.specs.declared.words.TypeUse.TheVariants.{Asked, Own, Switched, Removed, Enabled, Added, Set, Shared}
+use Rattle.expr_grammar.specs.Scopes.{Scope}
 
 abbrev pub is_system : TextPlace → Bool
 is_system Spawn = false

@@ -1,13 +1,11 @@
 //! The readers of texts where they stand.
-ghost use Rattle.expr_read.specs.Answers.{Tells, assign_answer, command_answer, expr_answer, ref_answer, switch_answer};
-ghost use Rattle.expr_read.specs.Languages.{assigns, commands, exprs, refs, switches};
-ghost use Rattle.expr_read.specs.Readings.{ReadsText};
+ghost use Rattle.expr_grammar.specs.Answers.{Tells, assign_answer, command_answer, expr_answer, ref_answer, switch_answer};
+ghost use Rattle.expr_grammar.specs.Languages.{assigns, commands, exprs, refs, switches};
+ghost use Rattle.expr_grammar.specs.Readings.{ReadsText};
 ghost use Rattle.expr_read.specs.ScopeOf.{scope_of};
 
-use crate::assigns::{read_assign_by, read_switch_by};
-use crate::commands::read_command_by;
-use crate::texts::{read_expr_by, read_ref_by};
 use crate::{Assign, CommandText, Expr, ExprFault, RefExpr, Scope, Switch};
+use expr_machine::{read_assign_by, read_command_by, read_expr_by, read_ref_by, read_switch_by};
 use std::alloc::Global;
 
 /// The expression that a text is where it stands, or its first fault.

@@ -3,19 +3,19 @@ ghost use Rattle.std.specs.Prelude.{◌≡◌, ◌<◌, ◌≤◌, ◌&&◌, not
 ghost use Rattle.std.specs.Option.{option_copied};
 ghost use Rattle.ent_types.specs.Registries.{type_at};
 ghost use Rattle.expr_read.specs.ScopeOf.{is_system, is_known, is_own, may_name, is_open, may_stand, scope_of};
-ghost use Rattle.expr_read.specs.CommandScopes.{ServesCommands};
-ghost use Rattle.expr_read.specs.Scopes.{IsLawful};
+ghost use Rattle.expr_grammar.specs.CommandScopes.{ServesCommands};
+ghost use Rattle.expr_grammar.specs.Scopes.{IsLawful};
 
 mod by_kind;
 mod by_word;
 mod left;
 
-use crate::names::Names;
 use crate::places::type_of;
 use crate::{Call, FieldUse, RefExpr, TypeUse, Variable};
 use by_kind::{has_suited, is_ref_kind, is_shared, kind_of_field, suited_field};
 use by_word::{is, own_reference, plain_call, system_call, system_variable};
 use ent_types::{Kind, Name, Registry, TypeId, TypeInfo, TypeSet};
+use expr_machine::Names;
 use left::{is_left, is_taken, kind_at};
 
 /// The number of the built-in type `SceneTag`.

@@ -1,9 +1,9 @@
 -- What is told of a reader's answer claims what the reader ensures.
 use Rattle.std.proofs.Common.{ℕ, ◌≡◌, List, sym, subst}
 use Rattle.std.specs.Prelude.{Result, Ok, Err, MatchResult}
-use Rattle.expr_read.specs.declared.fault.ExprFault.{ExprFault}
-use Rattle.expr_read.specs.Faults.{Texts}
-use Rattle.expr_read.specs.Readings.{ReadsText}
+use Rattle.expr_grammar.specs.declared.fault.ExprFault.{ExprFault}
+use Rattle.expr_grammar.specs.Faults.{Texts}
+use Rattle.expr_grammar.specs.Readings.{ReadsText}
 use Rattle.text_cases.specs.declared.answer.Answer.{Answer}
 use Rattle.text_cases.specs.declared.answer.Answer.TheVariants.{Tree as IsTree, Fault}
 use Rattle.text_cases.specs.Claims.{ClaimsOf}

@@ -1,9 +1,9 @@
 -- What an answer claims of a text.
 use Rattle.std.specs.Prelude.{ℕ, List}
-use Rattle.expr_read.specs.Faults.{Texts}
-use Rattle.expr_read.specs.Readings.{IsMeant, IsFault}
-use Rattle.expr_read.specs.Languages.{exprs, refs, assigns, switches, commands}
-use Rattle.expr_read.specs.Scopes.{Scope}
+use Rattle.expr_grammar.specs.Faults.{Texts}
+use Rattle.expr_grammar.specs.Readings.{IsMeant, IsFault}
+use Rattle.expr_grammar.specs.Languages.{exprs, refs, assigns, switches, commands}
+use Rattle.expr_grammar.specs.Scopes.{Scope}
 use Rattle.text_cases.specs.declared.answer.Answer.{Answer}
 use Rattle.text_cases.specs.declared.answer.Answer.TheVariants.{Tree as IsTree, Fault}
 use Rattle.text_cases.specs.declared.case.Sort.{Sort}

@@ -10,6 +10,8 @@
 mod answer;
 mod case;
 mod fault;
+#[cfg(test)]
+mod printing_tests;
 mod reading;
 mod setting;
 mod table;

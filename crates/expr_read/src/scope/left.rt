@@ -2,15 +2,15 @@
 ghost use Rattle.std.specs.Prelude.{◌≡◌, ◌<◌, ◌||◌, ◌&&◌, not, length, map, codes, IfSome};
 ghost use Rattle.std.specs.List.{list_any};
 ghost use Rattle.ent_types.specs.Types.{same_name, is_ref};
-ghost use Rattle.expr_read.specs.Machine.{ids, kind_at};
+ghost use Rattle.expr_grammar.specs.Machine.{ids, kind_at};
 ghost use Rattle.expr_read.specs.ScopeOf.{allows_of, is_listed, has_type_left};
 
 use super::by_kind::is_ref_kind;
 use super::by_word::is;
 use super::{Made, Scope};
 use crate::TypeUse;
-use crate::names::Names;
 use ent_types::{TypeId, TypeInfo, TypeSet};
+use expr_machine::Names;
 
 /// Says whether an earlier command makes the name.
 fn is_made(made: &[Made], name: &[u8]) -> bool

@@ -1,5 +1,5 @@
 use Rattle.std.proofs.Common.{◌≡◌, sym, subst}
-use Rattle.expr_read.specs.Languages.{switches}
+use Rattle.expr_grammar.specs.Languages.{switches}
 use Rattle.expr_read.specs.ScopeOf.{scope_of}
 use Rattle.text_cases.specs.declared.case.Sort.{Sort}
 use Rattle.text_cases.specs.Claims.{Claims}

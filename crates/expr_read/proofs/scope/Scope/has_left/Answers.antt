@@ -1,6 +1,5 @@
-use Rattle.std.proofs.Common.{Bool, not, ◌&&◌, refl, sym, ◌∙◌, arith}
-use Rattle.ent_types.specs.declared.entity.TypeId.{TypeId}
-use Rattle.expr_read.specs.Machine.{ids}
+use Rattle.std.proofs.Common.{not, ◌&&◌, refl, sym, ◌∙◌, arith}
+use Rattle.expr_grammar.specs.Machine.{ids}
 use Rattle.expr_read.specs.ScopeOf.{allows_of, is_listed}
 use Rattle.expr_read.proofs.TypesLeft.{found_at, passed_by, none_found}
 use Rattle.expr_read.proofs.scope.Scope.has_left.Goals as goal

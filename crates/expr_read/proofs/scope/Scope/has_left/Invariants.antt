@@ -1,5 +1,5 @@
 use Rattle.std.specs.Prelude.{not, ◌&&◌}
-use Rattle.expr_read.specs.Machine.{ids}
+use Rattle.expr_grammar.specs.Machine.{ids}
 use Rattle.expr_read.specs.ScopeOf.{allows_of, is_listed}
 use Rattle.expr_read.proofs.TypesLeft.{LeftFrom}
 use Rattle.expr_read.proofs.scope.Scope.has_left.Given as goal

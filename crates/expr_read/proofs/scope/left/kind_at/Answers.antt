@@ -1,8 +1,8 @@
-use Rattle.std.proofs.Common.{ℕ, zero, suc, ◌≡◌, List, [], ◌∷◌, Bool, Option, Some, None, map, drop, refl, sym, ap, ◌∙◌}
+use Rattle.std.proofs.Common.{ℕ, zero, suc, ◌≡◌, List, [], ◌∷◌, Some, map, refl, ap, ◌∙◌}
 use Rattle.std.specs.Prelude.{slice_get, option_map}
 use Rattle.ent_types.specs.declared.type_info.FieldInfo.{FieldInfo}
 use Rattle.ent_types.specs.Types.{is_ref}
-use Rattle.expr_read.specs.Machine.{kind_at}
+use Rattle.expr_grammar.specs.Machine.{kind_at}
 use Rattle.expr_read.proofs.scope.left.kind_at.Goals as goal
 
 kind_from : (fields : List FieldInfo) (at : ℕ) → option_map is_ref (slice_get fields at) ≡ kind_at (map is_ref fields) at

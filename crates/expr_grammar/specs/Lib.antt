@@ -1,0 +1,11 @@
+pub mod Answers
+pub mod CommandScopes
+pub mod Faults
+pub mod Fitting
+pub mod Grammar
+pub mod Languages
+pub mod Machine
+pub mod Meaning
+pub mod Readings
+pub mod Scopes
+pub mod Stops
