@@ -3,8 +3,7 @@ use Rattle.std.proofs.Common.{◌≡◌, Option, Some, Err, sym, ap, ◌∙◌}
 use Rattle.scenario_read.specs.declared.fault.BadScenario.{BadScenario}
 use Rattle.scenario_read.specs.declared.fault.ScenarioFault.{ScenarioFault}
 use Rattle.scenario_read.specs.declared.fault.ScenarioFault.TheVariants.{Bad, Memory}
-use Rattle.scenario_read.specs.Faults.{Passes}
-use Rattle.scenario_check.specs.Moves.{IsMoved}
+use Rattle.scenario_read.specs.Faults.{IsMoved, Passes}
 
 -- a fault that is moved twice
 pub moved_twice : (inner outer : BadScenario → BadScenario) (f g h : ScenarioFault) → IsMoved inner f g → IsMoved outer g h → IsMoved (λ b. outer (inner b)) f h

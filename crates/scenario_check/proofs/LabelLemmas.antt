@@ -2,7 +2,7 @@
 use Rattle.std.proofs.Common.{ℕ, ◌≤◌, List, [], length, take, ap, ◌∙◌}
 use Rattle.std.specs.List.{list_any}
 use Rattle.std.proofs.lemmas.List.{take_all}
-use Rattle.scenario_read.specs.declared.record.EventEntry.{EventEntry}
+use Rattle.scenario_record.specs.declared.record.EventEntry.{EventEntry}
 use Rattle.scenario_check.specs.Checks.{is_labelled}
 use Rattle.scenario_check.specs.Labels.{HasLabels}
 use Rattle.scenario_check.proofs.Steps.{taken, taken_any}

@@ -7,3 +7,5 @@ pub mod LabelLemmas
 pub mod SiblingLemmas
 pub mod RowLemmas
 pub mod ReadLemmas
+pub mod BuiltLemmas
+pub mod RunLemmas

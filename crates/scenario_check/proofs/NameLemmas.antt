@@ -4,8 +4,8 @@ use Rattle.std.specs.List.{list_any}
 use Rattle.std.proofs.lemmas.List.Folds.{list_any-append}
 use Rattle.ent_types.specs.Types.{same_name}
 use Rattle.ent_types.proofs.Lookups.{list_any-map}
-use Rattle.scenario_read.specs.declared.record.GroupEntry.{GroupEntry}
-use Rattle.scenario_read.specs.declared.record.SystemEntry.{SystemEntry}
+use Rattle.scenario_record.specs.declared.record.GroupEntry.{GroupEntry}
+use Rattle.scenario_record.specs.declared.record.SystemEntry.{SystemEntry}
 use Rattle.scenario_check.specs.Checks.{root_groups, repeated_from, orphan_from, stray_from}
 use Rattle.scenario_check.proofs.Steps.{here, taken, taken_more, taken_any}
 

@@ -10,13 +10,13 @@ use Rattle.chunk_layout.specs.Capacity.{capacity_of}
 use Rattle.scenario_read.specs.declared.fault.Cause.{Cause}
 use Rattle.scenario_read.specs.declared.fault.Cause.TheVariants.{DuplicateName, UnknownName, NotSibling, TooLarge, TooManyEntities, LookupOfWritten}
 use Rattle.scenario_read.specs.declared.fault.BadScenario.{BadScenario}
-use Rattle.scenario_read.specs.declared.record.Scenario.{Scenario}
-use Rattle.scenario_read.specs.declared.record.SpawnEntry.{SpawnEntry}
-use Rattle.scenario_read.specs.declared.record.GroupEntry.{GroupEntry}
-use Rattle.scenario_read.specs.declared.record.SystemEntry.{SystemEntry}
-use Rattle.scenario_read.specs.declared.record.EventEntry.{EventEntry}
-use Rattle.scenario_read.specs.declared.record.EventAct.{EventAct}
-use Rattle.scenario_read.specs.declared.record.EventAct.TheVariants.{Operate, Load, Unload}
+use Rattle.scenario_record.specs.declared.record.Scenario.{Scenario}
+use Rattle.scenario_record.specs.declared.record.SpawnEntry.{SpawnEntry}
+use Rattle.scenario_record.specs.declared.record.GroupEntry.{GroupEntry}
+use Rattle.scenario_record.specs.declared.record.SystemEntry.{SystemEntry}
+use Rattle.scenario_record.specs.declared.record.EventEntry.{EventEntry}
+use Rattle.scenario_record.specs.declared.record.EventAct.{EventAct}
+use Rattle.scenario_record.specs.declared.record.EventAct.TheVariants.{Operate, Load, Unload}
 use Rattle.scenario_read.specs.Faults.{bad, below_key, below_place}
 use Rattle.scenario_check.specs.declared.siblings.Sibling.{Sibling}
 use Rattle.scenario_check.specs.Touched.{set_of, written, looked_up}

@@ -5,9 +5,9 @@ use Rattle.std.specs.Option.{option_map_or}
 use Rattle.ent_types.specs.Types.{same_name}
 use Rattle.scenario_read.specs.declared.fault.Cause.TheVariants.{DuplicateName, UnknownName}
 use Rattle.scenario_read.specs.declared.fault.BadScenario.{BadScenario}
-use Rattle.scenario_read.specs.declared.record.EventEntry.{EventEntry}
-use Rattle.scenario_read.specs.declared.record.EventAct.{EventAct}
-use Rattle.scenario_read.specs.declared.record.EventAct.TheVariants.{Operate, Load, Unload}
+use Rattle.scenario_record.specs.declared.record.EventEntry.{EventEntry}
+use Rattle.scenario_record.specs.declared.record.EventAct.{EventAct}
+use Rattle.scenario_record.specs.declared.record.EventAct.TheVariants.{Operate, Load, Unload}
 use Rattle.scenario_read.specs.Faults.{bad, below_key}
 use Rattle.scenario_check.specs.Checks.{label_of, is_labelled}
 

@@ -4,7 +4,7 @@ use Rattle.std.specs.List.{range_with_len}
 use Rattle.ent_types.specs.declared.point.Point.TheVariants.{BeginInitialization, EndInitialization, BeginSimulation, EndSimulation, BeginPresentation}
 use Rattle.scenario_read.specs.declared.fault.Cause.TheVariants.{NotBuilt}
 use Rattle.scenario_read.specs.declared.fault.BadScenario.{BadScenario}
-use Rattle.scenario_read.specs.declared.record.Scenario.{Scenario}
+use Rattle.scenario_record.specs.declared.record.Scenario.{Scenario}
 use Rattle.scenario_read.specs.Faults.{Reading, bad, whole_path}
 use Rattle.scenario_check.specs.declared.plan.Plan.{Plan}
 use Rattle.scenario_check.specs.declared.plan.Step.{Step}

@@ -1,6 +1,6 @@
 -- What the checks need of a scenario that was read.
 use Rattle.std.specs.Prelude.{◌≤◌, length}
-use Rattle.scenario_read.specs.declared.record.Scenario.{Scenario}
+use Rattle.scenario_record.specs.declared.record.Scenario.{Scenario}
 
 -- what is needed of a scenario: each scenario that is read has it
 pub record IsRead (s : Scenario) : Type 0 where

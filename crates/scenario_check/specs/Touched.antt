@@ -3,17 +3,17 @@ use Rattle.std.specs.Prelude.{ℕ, List, [], ◌∷◌, ◌++◌, map, filter, f
 use Rattle.ent_types.specs.declared.type_info.TypeInfo.{TypeInfo}
 use Rattle.ent_types.specs.Registries.{type_at}
 use Rattle.ent_types.specs.TypeSets.{with_type}
-use Rattle.expr_read.specs.declared.tree.Expr.{Expr, fold-Expr}
-use Rattle.expr_read.specs.declared.tree.Expr.TheOpen.{Expr-F}
-use Rattle.expr_read.specs.declared.tree.RefExpr.{RefExpr}
-use Rattle.expr_read.specs.declared.tree.RefExpr.TheVariants as refs
-use Rattle.expr_read.specs.declared.tree.ValueExpr.{ValueExpr}
-use Rattle.expr_read.specs.declared.tree.ValueExpr.TheVariants as values
-use Rattle.expr_read.specs.declared.tree.PartExpr.{PartExpr}
-use Rattle.expr_read.specs.declared.tree.CommandText.{CommandText}
-use Rattle.expr_read.specs.declared.tree.CommandText.TheVariants.{Create, Destroy, Add, Set, SetShared, Remove, Enable, Disable, Instantiate}
-use Rattle.scenario_read.specs.declared.record.CommandEntry.{CommandEntry}
-use Rattle.scenario_read.specs.declared.record.SystemEntry.{SystemEntry}
+use Rattle.expr_trees.specs.declared.tree.Expr.{Expr, fold-Expr}
+use Rattle.expr_trees.specs.declared.tree.Expr.TheOpen.{Expr-F}
+use Rattle.expr_trees.specs.declared.tree.RefExpr.{RefExpr}
+use Rattle.expr_trees.specs.declared.tree.RefExpr.TheVariants as refs
+use Rattle.expr_trees.specs.declared.tree.ValueExpr.{ValueExpr}
+use Rattle.expr_trees.specs.declared.tree.ValueExpr.TheVariants as values
+use Rattle.expr_trees.specs.declared.tree.PartExpr.{PartExpr}
+use Rattle.expr_trees.specs.declared.tree.CommandText.{CommandText}
+use Rattle.expr_trees.specs.declared.tree.CommandText.TheVariants.{Create, Destroy, Add, Set, SetShared, Remove, Enable, Disable, Instantiate}
+use Rattle.scenario_record.specs.declared.record.CommandEntry.{CommandEntry}
+use Rattle.scenario_record.specs.declared.record.SystemEntry.{SystemEntry}
 use Rattle.scenario_check.specs.declared.plan.Access.{Access}
 
 -- the set, and a type. Types have numbers below 256: a number that no type has is passed over.
@@ -67,7 +67,25 @@ looked_step (Expr-F.On ty) = []
 abbrev pub looked_in : Expr → List ℕ
 looked_in = fold-Expr (List ℕ) looked_step
 
--- ---- all texts of a system: the same walk for both, which is told what an expression and a reference give
+-- ---- `has` and `on`
+
+abbrev pub tested_step : Expr-F (List ℕ) → List ℕ
+tested_step (Expr-F.Number z) = []
+tested_step (Expr-F.Variable v) = []
+tested_step (Expr-F.Own ty i) = []
+tested_step (Expr-F.Unary op a) = a
+tested_step (Expr-F.Binary op a b) = a ++ b
+tested_step (Expr-F.Pick c a b) = c ++ (a ++ b)
+tested_step (Expr-F.Get r ty i) = []
+tested_step (Expr-F.Alive r) = []
+tested_step (Expr-F.Has r ty) = ty.0 ∷ []
+tested_step (Expr-F.Same r q) = []
+tested_step (Expr-F.On ty) = ty.0 ∷ []
+
+abbrev pub tested_in : Expr → List ℕ
+tested_in = fold-Expr (List ℕ) tested_step
+
+-- ---- all texts of a system: the same walk for each, which is told what an expression and a reference give
 
 module _ (in_expr : Expr → List ℕ) (in_ref : RefExpr → List ℕ) where
   abbrev pub in_value : ValueExpr → List ℕ

@@ -7,8 +7,8 @@ ghost use Rattle.scenario_check.specs.Walks.{with_known};
 use crate::plan::Access;
 use crate::touched::{Wanted, in_texts, put};
 use ent_types::{Registry, TypeId, TypeSet};
-use expr_read::{Assign, Switch};
-use scenario_read::SystemEntry;
+use expr_trees::{Assign, Switch};
+use scenario_record::SystemEntry;
 
 /// Says whether a type can be switched off in a row; false where there is no such type.
 fn is_enableable(registry: &Registry, ty: TypeId) -> bool

@@ -1,9 +1,7 @@
 //! All checks of a scenario, in order.
-ghost use Rattle.std.specs.Prelude.{◌≡◌, drop};
 ghost use Rattle.scenario_read.specs.Faults.{Answers, Passes};
 ghost use Rattle.scenario_check.specs.Checks.{first_fault};
 ghost use Rattle.scenario_check.specs.Planned.{passed, planned, checked};
-ghost use Rattle.scenario_check.specs.Moves.{IsMoved, without_dot};
 ghost use Rattle.scenario_check.specs.Read.{IsRead};
 
 use crate::events::events;
@@ -14,35 +12,9 @@ use crate::plan::Plan;
 use crate::planning::planned;
 use crate::siblings::siblings;
 use crate::spawns::spawns;
-use ent_types::Sequence;
-use scenario_read::{BadScenario, KeyPath, Scenario, ScenarioFault};
+use scenario_read::{ScenarioFault, whole_fault};
+use scenario_record::Scenario;
 use std::alloc::Global;
-
-/// The path without the dot that it begins with.
-fn from_first_key(key: KeyPath) -> KeyPath
-    ensures { result ≡ drop 1 key }
-{
-    let mut bytes = key.into_vec();
-    if bytes.is_empty() {
-        return Sequence::from_vec(bytes);
-    }
-    let _dot = bytes.remove(0);
-    Sequence::from_vec(bytes)
-}
-
-/// The same fault, seen from the whole scenario.
-fn whole(fault: ScenarioFault) -> ScenarioFault
-    ensures { IsMoved without_dot fault result }
-{
-    match fault {
-        ScenarioFault::Bad(fault) => ScenarioFault::Bad(BadScenario {
-            cause: fault.cause,
-            key: from_first_key(fault.key),
-            at: fault.at,
-        }),
-        ScenarioFault::Memory => ScenarioFault::Memory,
-    }
-}
 
 /// Passes where each test does; the first that doesn't gives the fault.
 fn tests(alloc: Global, scenario: &Scenario) -> Result<(), ScenarioFault>
@@ -77,6 +49,6 @@ pub fn check(alloc: Global, scenario: &Scenario) -> Result<Plan, ScenarioFault>
 {
     match passed(alloc, scenario) {
         Ok(plan) => Ok(plan),
-        Err(fault) => Err(whole(fault)),
+        Err(fault) => Err(whole_fault(alloc, fault)),
     }
 }

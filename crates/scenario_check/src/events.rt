@@ -3,15 +3,15 @@ ghost use Rattle.std.specs.Prelude.{◌≡◌, ◌||◌, ℕ, List, [], codes, I
 ghost use Rattle.std.specs.List.{list_any};
 ghost use Rattle.ent_types.specs.Types.{same_name};
 ghost use Rattle.scenario_read.specs.declared.fault.ScenarioFault.TheVariants.{Bad};
-ghost use Rattle.scenario_read.specs.Faults.{Passes, bad, below_key};
+ghost use Rattle.scenario_read.specs.Faults.{IsMoved, Passes, bad, below_key};
 ghost use Rattle.scenario_check.specs.Checks.{label_of, event_fault_from, events_fault};
 ghost use Rattle.scenario_check.specs.Labels.{HasLabels, has_label, fault_by};
-ghost use Rattle.scenario_check.specs.Moves.{IsMoved};
 
-use crate::places::{at_element, bad, below_key};
+use crate::places::at_element;
 use ent_types::{Memory, Name};
 use indexmap::IndexSet;
-use scenario_read::{Cause, EventAct, EventEntry, Scenario, ScenarioFault};
+use scenario_read::{Cause, ScenarioFault, bad, below_key};
+use scenario_record::{EventAct, EventEntry, Scenario};
 use std::alloc::Global;
 
 /// The name of the load that an event is.

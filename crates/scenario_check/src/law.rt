@@ -1,11 +1,21 @@
 //! What each scenario that is read keeps to.
-ghost use Rattle.std.specs.Prelude.{◌≡◌, ℕ, List, Ok};
-ghost use Rattle.scenario_read.specs.declared.record.Scenario.{Scenario};
+ghost use Rattle.std.specs.Prelude.{◌≡◌, ℕ, List, true, Ok};
+ghost use Rattle.scenario_record.specs.declared.record.Scenario.{Scenario};
+ghost use Rattle.scenario_record.specs.Runnable.{IsRunnable};
 ghost use Rattle.scenario_read.specs.ReadScenario.{scenario_of};
+ghost use Rattle.scenario_check.specs.declared.plan.Plan.{Plan};
 ghost use Rattle.scenario_check.specs.Read.{IsRead};
+ghost use Rattle.scenario_check.specs.Planned.{checked};
+ghost use Rattle.scenario_check.specs.Built.{is_built};
 
 /// Each scenario that some bytes are can be checked.
 #[tactic(auto, using(crate::proofs::ReadLemmas::can_be_checked))]
 pub fn what_is_read_can_be_checked()
     ensures { (bytes : List ℕ) (s : Scenario) → scenario_of bytes ≡ Ok s → IsRead s }
+{}
+
+/// Each scenario that some bytes are, that passes its checks and is of a form that is run, can be run.
+#[tactic(auto, using(crate::proofs::RunLemmas::can_be_run))]
+pub fn what_passes_can_be_run()
+    ensures { (bytes : List ℕ) (s : Scenario) (plan : Plan) → scenario_of bytes ≡ Ok s → checked s ≡ Ok plan → is_built s ≡ true → IsRunnable s }
 {}

@@ -2,6 +2,7 @@
 #![tactic(auto)]
 
 mod access;
+mod built;
 mod checking;
 mod events;
 mod law;
@@ -17,6 +18,7 @@ mod spawns;
 mod tests;
 mod touched;
 
+pub use built::is_built;
 pub use checking::check;
-pub use law::what_is_read_can_be_checked;
+pub use law::{what_is_read_can_be_checked, what_passes_can_be_run};
 pub use plan::{Access, Plan, Step};

@@ -4,8 +4,9 @@ ghost use Rattle.scenario_read.specs.Faults.{Passes};
 ghost use Rattle.scenario_check.specs.Checks.{each_fault_from, lookup_fault, lookups_fault};
 
 use crate::access::{looked_up, written};
-use crate::places::{at_element, bad};
-use scenario_read::{Cause, Scenario, ScenarioFault, SystemEntry};
+use crate::places::at_element;
+use scenario_read::{Cause, ScenarioFault, bad};
+use scenario_record::{Scenario, SystemEntry};
 use std::alloc::Global;
 
 /// Passes where a system looks up no type that it writes.

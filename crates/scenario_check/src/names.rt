@@ -7,7 +7,8 @@ ghost use Rattle.scenario_check.specs.Checks.{root_groups, repeated_from, names_
 
 use crate::places::key_fault;
 use ent_types::Name;
-use scenario_read::{Cause, GroupEntry, Scenario, ScenarioFault, SystemEntry};
+use scenario_read::{Cause, ScenarioFault};
+use scenario_record::{GroupEntry, Scenario, SystemEntry};
 use std::alloc::Global;
 
 /// Says whether a root group, which is always there, has the name.

@@ -5,7 +5,8 @@ ghost use Rattle.scenario_check.specs.Checks.{root_groups, orphan_from, stray_fr
 
 use crate::names::is_known;
 use crate::places::key_fault;
-use scenario_read::{Cause, GroupEntry, Scenario, ScenarioFault, SystemEntry};
+use scenario_read::{Cause, ScenarioFault};
+use scenario_record::{GroupEntry, Scenario, SystemEntry};
 use std::alloc::Global;
 
 /// The place of the first group whose parent is neither a root group nor an earlier group.

@@ -8,10 +8,10 @@ ghost use Rattle.scenario_check.specs.Planned.{steps_of, planned, plan_of};
 ghost use Rattle.scenario_check.specs.Read.{IsRead};
 
 use crate::access::access_of;
-use crate::places::bad;
 use crate::plan::{Access, Plan, Step};
 use ent_types::{Memory, Point, Registry, Sequence};
-use scenario_read::{Cause, Scenario, ScenarioFault, SystemEntry};
+use scenario_read::{Cause, ScenarioFault, bad};
+use scenario_record::{Scenario, SystemEntry};
 use std::alloc::Global;
 
 /// Puts the runs of all systems last, in declared order.

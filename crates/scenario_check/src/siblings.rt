@@ -4,9 +4,10 @@ ghost use Rattle.ent_types.specs.Types.{same_name};
 ghost use Rattle.scenario_read.specs.Faults.{Passes};
 ghost use Rattle.scenario_check.specs.Checks.{group_sibling, system_sibling, siblings_of, cause_between, cause_of_name, order_fault_from, order_fault, each_fault_from, siblings_fault};
 
-use crate::places::{at_element, bad};
+use crate::places::at_element;
 use ent_types::{Memory, Name};
-use scenario_read::{Cause, GroupEntry, Scenario, ScenarioFault, SystemEntry};
+use scenario_read::{Cause, ScenarioFault, bad};
+use scenario_record::{GroupEntry, Scenario, SystemEntry};
 use std::alloc::Global;
 
 /// A child of a group: a group or a system.

@@ -6,10 +6,11 @@ ghost use Rattle.chunk_layout.specs.Capacity.{column_bytes, block_bytes};
 ghost use Rattle.scenario_read.specs.Faults.{Passes};
 ghost use Rattle.scenario_check.specs.Checks.{each_fault_from, spawn_fault, crowded_from, spawns_fault};
 
-use crate::places::{at_element, bad};
+use crate::places::at_element;
 use ent_types::{Registry, TypeId};
-use expr_read::PartExpr;
-use scenario_read::{Cause, Scenario, ScenarioFault, SpawnEntry};
+use expr_trees::PartExpr;
+use scenario_read::{Cause, ScenarioFault, bad};
+use scenario_record::{Scenario, SpawnEntry};
 use std::alloc::Global;
 
 /// The bytes of the column of ids, for one row.

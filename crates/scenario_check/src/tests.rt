@@ -1,12 +1,12 @@
 //! Scenarios that are built by hand, with their plan and with their first fault.
+use crate::built::is_built;
 use crate::events::events;
 use crate::names::names;
 use crate::parents::parents;
 use crate::siblings::siblings;
 use ent_types::{Memory, Name, Registry, Sequence, TypeSet};
-use scenario_read::{
-    Cause, EventAct, EventEntry, GroupEntry, Scenario, ScenarioFault, SystemEntry,
-};
+use scenario_read::{Cause, ScenarioFault, read_scenario};
+use scenario_record::{EventAct, EventEntry, GroupEntry, Scenario, SystemEntry};
 use std::alloc::Global;
 use std::test::Fail;
 
@@ -22,6 +22,7 @@ fn empty(alloc: Global) -> Result<Scenario, Memory> {
         system: Sequence::new(alloc),
         event: Sequence::new(alloc),
         placed: false,
+        unbuilt: false,
     })
 }
 
@@ -204,5 +205,47 @@ fn two_loads_of_one_name(rt: HostRuntime) -> Result<(), Fail> {
     }
     let found = events(alloc, &scenario);
     assert!(rt; is_fault(&found, Cause::DuplicateName, b".event[2].as"));
+    Ok(())
+}
+
+/// A scenario of a form that is run.
+const RUN: &str = r#"frames = 1
+[[type]]
+name = "P"
+fields = ["v:i32"]
+[[spawn]]
+with = { P = [1] }
+[[system]]
+name = "S"
+all = ["P"]
+set = ["P.v = has(self, P)"]
+"#;
+
+/// What makes it one of another form.
+const MORE: [&str; 6] = [
+    "every = 1",
+    "[[type]]\nname = 'Q'\nkind = 'cleanup'\nfields = ['v:i32']",
+    "[[event]]\nframe = 1\ndo = 'destroy null'",
+    "[[spawn]]\nwith = { Prefab = [] }",
+    "[[system]]\nname = 'T'\nall = ['Disabled']",
+    "[[system]]\nname = 'T'\nall = ['P']\nset = ['P.v = 1 + has(self, Disabled)']",
+];
+
+/// Says whether that scenario with this behind it is of a form that is run.
+fn is_run_with(alloc: Global, more: &str) -> Result<bool, Fail> {
+    let text = format!(in alloc; "{RUN}{more}")?;
+    match read_scenario(alloc, text.as_bytes()) {
+        Ok(scenario) => Ok(is_built(&scenario)),
+        Err(_) => Err(Fail::new("refused")),
+    }
+}
+
+#[test]
+fn forms_that_are_run(rt: HostRuntime) -> Result<(), Fail> {
+    let alloc = rt.alloc();
+    assert!(rt; is_run_with(alloc, "")?);
+    for more in MORE {
+        assert!(rt; !is_run_with(alloc, more)?);
+    }
     Ok(())
 }

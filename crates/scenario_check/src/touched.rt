@@ -1,11 +1,11 @@
-//! The types that the texts of a system name: those of the own row, and those that it looks up.
+//! The types that the texts of a system name: those of the own row, those that it looks up, and those that it tests for.
 ghost use Rattle.std.specs.Prelude.{◌≡◌, ◌++◌, flat_map};
-ghost use Rattle.scenario_check.specs.Touched.{put_type, own_in, own_in_ref, looked_in, in_value, in_part, in_act, in_command, in_texts};
+ghost use Rattle.scenario_check.specs.Touched.{put_type, own_in, own_in_ref, looked_in, tested_in, in_value, in_part, in_act, in_command, in_texts};
 ghost use Rattle.scenario_check.specs.Walks.{with_known, expr_types, ref_types};
 
 use ent_types::{TypeId, TypeSet};
-use expr_read::{Assign, CommandText, Expr, PartExpr, RefExpr, Switch, ValueExpr};
-use scenario_read::{CommandEntry, SystemEntry};
+use expr_trees::{Assign, CommandText, Expr, PartExpr, RefExpr, Switch, ValueExpr};
+use scenario_record::{CommandEntry, SystemEntry};
 
 /// The greatest number of types.
 const MOST_TYPES: u16 = 256;
@@ -17,6 +17,8 @@ pub(crate) enum Wanted {
     Own,
     /// Those of `get`.
     Lookups,
+    /// Those of `has` and `on`.
+    Tested,
 }
 
 /// The set, and the type. A number that no type has is passed over.
@@ -94,12 +96,38 @@ fn looked_in(e: &Expr, found: TypeSet) -> TypeSet
     }
 }
 
+fn tested_in(e: &Expr, found: TypeSet) -> TypeSet
+    ensures { result ≡ with_known found (tested_in e.now) }
+{
+    match e {
+        Expr::Number(_) => found,
+        Expr::Variable(_) => found,
+        Expr::Own { .. } => found,
+        Expr::Unary(_, a) => tested_in(a.get(), found),
+        Expr::Binary(_, a, b) => {
+            let found = tested_in(a.get(), found);
+            tested_in(b.get(), found)
+        }
+        Expr::Pick(c, a, b) => {
+            let found = tested_in(c.get(), found);
+            let found = tested_in(a.get(), found);
+            tested_in(b.get(), found)
+        }
+        Expr::Get { .. } => found,
+        Expr::Alive(_) => found,
+        Expr::Has(_, ty) => put(found, *ty),
+        Expr::Same(_, _) => found,
+        Expr::On(ty) => put(found, *ty),
+    }
+}
+
 fn in_expr(wanted: Wanted, e: &Expr, found: TypeSet) -> TypeSet
     ensures { result ≡ with_known found (expr_types wanted e.now) }
 {
     match wanted {
         Wanted::Own => own_in(e, found),
         Wanted::Lookups => looked_in(e, found),
+        Wanted::Tested => tested_in(e, found),
     }
 }
 
@@ -109,6 +137,7 @@ fn in_ref(wanted: Wanted, r: &RefExpr, found: TypeSet) -> TypeSet
     match wanted {
         Wanted::Own => own_in_ref(r, found),
         Wanted::Lookups => found,
+        Wanted::Tested => found,
     }
 }
 
@@ -179,7 +208,8 @@ fn in_command(wanted: Wanted, command: &CommandEntry, found: TypeSet) -> TypeSet
     in_act(wanted, &command.act, found)
 }
 
-fn in_assigns(wanted: Wanted, assigns: &[Assign], before: TypeSet) -> TypeSet
+/// The types in assigns, beside those that were found before.
+pub(crate) fn in_assigns(wanted: Wanted, assigns: &[Assign], before: TypeSet) -> TypeSet
     ensures { result ≡ with_known before (flat_map (λ a. in_value (expr_types wanted) (ref_types wanted) a.value) assigns.now) }
 {
     let mut found = before;

@@ -2,7 +2,7 @@
 use Rattle.std.proofs.Common.{ℕ, ◌≡◌, ◌∙◌, List, [], ◌∷◌, ◌++◌, Ok, sym, ap}
 use Rattle.toml.specs.Data.{Data, Members, member}
 use Rattle.ent_types.specs.declared.type_info.TypeInfo.{TypeInfo}
-use Rattle.expr_read.specs.declared.tree.PartExpr.{PartExpr}
+use Rattle.expr_trees.specs.declared.tree.PartExpr.{PartExpr}
 use Rattle.scenario_read.specs.Faults.{Reading, under, and_then, changed}
 use Rattle.scenario_read.specs.ReadSpawns.{part, parts_of}
 use Rattle.scenario_read.proofs.ListLemmas.{onto, onto_more}

@@ -1,5 +1,5 @@
 -- The faults of a scenario, what is read or its first fault, and what a reader answers.
-use Rattle.std.specs.Prelude.{ℕ, ◌≡◌, List, [], ◌∷◌, ◌++◌, drop, codes, Option, None, Some, Result, Ok, Err, Bool, if◌then◌else◌}
+use Rattle.std.specs.Prelude.{ℕ, ◌≡◌, List, [], ◌++◌, drop, codes, Option, None, Some, Result, Ok, Err, Bool, if◌then◌else◌}
 use Rattle.std.specs.Fmt.{decimal}
 use Rattle.scenario_read.specs.declared.fault.Cause.{Cause}
 use Rattle.scenario_read.specs.declared.fault.BadScenario.{BadScenario}

@@ -1,17 +1,17 @@
 -- The tables of a system's commands: `buffer`, `when`, `key`, `do`.
-use Rattle.std.specs.Prelude.{ℕ, pos, ◌+◌, Bool, true, false, ◌==◌, if◌then◌else◌, List, [], ◌∷◌, ◌++◌, codes, Option, None, Some, Ok, Err}
+use Rattle.std.specs.Prelude.{ℕ, pos, ◌+◌, Bool, ◌==◌, if◌then◌else◌, List, [], ◌∷◌, ◌++◌, codes, Option, None, Some, Ok}
 use Rattle.toml.specs.Data.{Data, Items, no_items, item, Members}
 use Rattle.ent_types.specs.declared.point.Point.{Point}
 use Rattle.ent_types.specs.declared.point.Point.TheVariants.{BeginInitialization, EndInitialization, BeginSimulation, EndSimulation, BeginPresentation}
 use Rattle.ent_types.specs.declared.type_info.TypeInfo.{TypeInfo}
 use Rattle.ent_types.specs.Types.{same_name}
 use Rattle.expr_read.specs.declared.scope.Made.{Made}
-use Rattle.expr_read.specs.declared.tree.Expr.TheVariants.{Number, Variable}
-use Rattle.expr_read.specs.declared.tree.Variable.TheVariants.{Chunk}
-use Rattle.expr_read.specs.declared.tree.CommandText.{CommandText}
-use Rattle.expr_read.specs.declared.tree.CommandText.TheVariants.{Create, Destroy, Add, Set, SetShared, Remove, Enable, Disable, Instantiate}
+use Rattle.expr_trees.specs.declared.tree.Expr.TheVariants.{Number, Variable}
+use Rattle.expr_trees.specs.declared.tree.Variable.TheVariants.{Chunk}
+use Rattle.expr_trees.specs.declared.tree.CommandText.{CommandText}
+use Rattle.expr_trees.specs.declared.tree.CommandText.TheVariants.{Create, Destroy, Add, Set, SetShared, Remove, Enable, Disable, Instantiate}
 use Rattle.scenario_read.specs.declared.fault.Cause.TheVariants.{BadWord}
-use Rattle.scenario_read.specs.declared.record.CommandEntry.{CommandEntry}
+use Rattle.scenario_record.specs.declared.record.CommandEntry.{CommandEntry}
 use Rattle.scenario_read.specs.Faults.{Reading, at_place, and_then, changed, unless, or_fault}
 use Rattle.scenario_read.specs.ReadKeys.{unknown_key, required, optional, text, list_up_to, members}
 use Rattle.scenario_read.specs.ReadTexts.{system_expr, system_command}

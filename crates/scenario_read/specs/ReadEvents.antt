@@ -1,15 +1,15 @@
 -- The table of an event: `frame`, and one of `do`, `load` with `as` and `delay`, and `unload`.
-use Rattle.std.specs.Prelude.{ℕ, Bool, true, false, not, ◌&&◌, ◌||◌, ◌==◌, nat_le, if◌then◌else◌, List, [], ◌∷◌, length, codes, Option, None, Some, is_some, is_none, Ok, Err}
+use Rattle.std.specs.Prelude.{ℕ, not, ◌&&◌, nat_le, List, [], ◌∷◌, length, codes, Option, None, Some, Ok, Err}
 use Rattle.std.specs.Option.{unwrap_or}
-use Rattle.toml.specs.Data.{Data, Members, get_member}
+use Rattle.toml.specs.Data.{Data, Members}
 use Rattle.ent_types.specs.declared.type_info.TypeInfo.{TypeInfo}
-use Rattle.expr_read.specs.declared.tree.CommandText.{CommandText}
+use Rattle.expr_trees.specs.declared.tree.CommandText.{CommandText}
 use Rattle.scenario_read.specs.declared.events.EventKeys.{EventKeys}
 use Rattle.scenario_read.specs.declared.fault.Cause.TheVariants.{Missing, BadName, BadShape}
-use Rattle.scenario_read.specs.declared.record.EventEntry.{EventEntry}
-use Rattle.scenario_read.specs.declared.record.EventAct.{EventAct}
-use Rattle.scenario_read.specs.declared.record.EventAct.TheVariants.{Operate, Load, Unload}
-use Rattle.scenario_read.specs.Faults.{Reading, bad, under, and_then, changed, unless, fault_if}
+use Rattle.scenario_record.specs.declared.record.EventEntry.{EventEntry}
+use Rattle.scenario_record.specs.declared.record.EventAct.{EventAct}
+use Rattle.scenario_record.specs.declared.record.EventAct.TheVariants.{Operate, Load, Unload}
+use Rattle.scenario_read.specs.Faults.{Reading, bad, and_then, changed, unless, fault_if}
 use Rattle.scenario_read.specs.ReadKeys.{unknown_key, required, perhaps, number, text, name, members}
 use Rattle.scenario_read.specs.ReadTexts.{event_command}
 

@@ -1,10 +1,10 @@
 -- The keys that place a child among its siblings, and the table of a group: `name`, `parent`, `before`, `after`,
 -- `first`, `last`.
-use Rattle.std.specs.Prelude.{ℕ, Bool, true, false, ◌&&◌, List, [], ◌∷◌, codes, Option, None, Some, Ok, Err}
+use Rattle.std.specs.Prelude.{ℕ, Bool, false, ◌&&◌, List, [], ◌∷◌, codes, Ok}
 use Rattle.toml.specs.Data.{Members}
 use Rattle.scenario_read.specs.declared.fault.Cause.TheVariants.{BadShape}
 use Rattle.scenario_read.specs.declared.groups.Placement.{Placement}
-use Rattle.scenario_read.specs.declared.record.GroupEntry.{GroupEntry}
+use Rattle.scenario_record.specs.declared.record.GroupEntry.{GroupEntry}
 use Rattle.scenario_read.specs.Faults.{Reading, and_then, changed, unless, fault_if}
 use Rattle.scenario_read.specs.ReadKeys.{unknown_key, required, optional, truth, name, names}
 

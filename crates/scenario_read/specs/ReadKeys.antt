@@ -1,6 +1,6 @@
 -- The keys of a table and the values under them, each as a key is read: the TOML type first, then the length or the
 -- range, then the word or the name.
-use Rattle.std.specs.Prelude.{ℕ, pos, ◌+◌, Bool, true, false, ◌&&◌, nat_le, nat_lt, if◌then◌else◌, List, [], ◌∷◌, codes, Option, None, Some, Ok, Err}
+use Rattle.std.specs.Prelude.{ℕ, pos, ◌+◌, Bool, ◌&&◌, nat_le, nat_lt, if◌then◌else◌, List, [], ◌∷◌, Option, None, Some, Ok, Err}
 use Rattle.std.specs.List.{list_any}
 use Rattle.toml.specs.Data.{Data, string, integer, boolean, array, table, Items, no_items, item, Members, no_members, member, get_member}
 use Rattle.ent_types.specs.Names.{name_of}

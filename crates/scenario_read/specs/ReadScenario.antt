@@ -1,14 +1,12 @@
 -- The scenario that the bytes of a file are, or its first fault.
-use Rattle.std.specs.Prelude.{ℕ, Bool, false, ◌||◌, is_some, List, [], ◌∷◌, codes, Option, None, Some, Ok, Err, if◌then◌else◌}
+use Rattle.std.specs.Prelude.{ℕ, List, [], ◌∷◌, codes, Option, None, Some, Err, if◌then◌else◌}
 use Rattle.std.specs.Str.{is_utf8}
-use Rattle.toml.specs.Data.{Data, array, table, Items, no_items, item, Members, get_member}
+use Rattle.toml.specs.Data.{Members}
 use Rattle.toml.specs.Parse.{parse_document}
 use Rattle.ent_types.specs.declared.type_info.TypeInfo.{TypeInfo}
 use Rattle.ent_types.specs.Registries.{built_in_types}
 use Rattle.scenario_read.specs.declared.fault.Cause.TheVariants.{NotToml}
-use Rattle.scenario_read.specs.declared.fault.BadScenario.{BadScenario}
-use Rattle.scenario_read.specs.declared.record.Scenario.{Scenario}
-use Rattle.scenario_read.specs.declared.record.GroupEntry.{GroupEntry}
+use Rattle.scenario_record.specs.declared.record.Scenario.{Scenario}
 use Rattle.scenario_read.specs.declared.whole.Numbers.{Numbers}
 use Rattle.scenario_read.specs.Faults.{Reading, bad, and_then, changed, unless, whole_path}
 use Rattle.scenario_read.specs.ReadKeys.{unknown_key, required, optional, number, each_up_to, tables_up_to}
@@ -17,6 +15,7 @@ use Rattle.scenario_read.specs.ReadSpawns.{spawn_item}
 use Rattle.scenario_read.specs.ReadGroups.{group_table}
 use Rattle.scenario_read.specs.ReadSystems.{system_item}
 use Rattle.scenario_read.specs.ReadEvents.{event_item}
+use Rattle.scenario_read.specs.ReadStages.{is_placed, is_unbuilt}
 
 -- `frames`, `first_system_version`, `first_entity_version`
 abbrev pub numbers : Members → Reading Numbers
@@ -27,27 +26,6 @@ numbers ms =
     (optional (codes "first_entity_version") 1 (number 1 4294967295) ms))
     (optional (codes "first_system_version") 1 (number 1 4294967295) ms))
     (required (codes "frames") (number 0 100000) ms)
-
--- ---- the keys that place groups and systems, of which `check` makes no plan yet
-
-abbrev pub has_key : List ℕ → Members → Bool
-has_key key ms = is_some (get_member key ms)
-
-abbrev pub places_one : Data → Bool
-places_one (table ms) =
-    has_key (codes "group") ms || (has_key (codes "before") ms || (has_key (codes "after") ms || (has_key (codes "first") ms || has_key (codes "last") ms)))
-places_one d = false
-
-abbrev pub places_any : Items → Bool
-places_any no_items = false
-places_any (item d ds) = places_one d || places_any ds
-
-abbrev pub places_in : Option Data → Bool
-places_in (Some (array ds)) = places_any ds
-places_in d = false
-
-abbrev pub is_placed : Members → Bool
-is_placed ms = has_key (codes "group") ms || places_in (get_member (codes "system") ms)
 
 -- ---- the whole
 
@@ -67,6 +45,7 @@ tables n registry ms =
       system = system;
       event = event;
       placed = is_placed ms;
+      unbuilt = is_unbuilt ms;
     })
     (optional (codes "event") [] (each_up_to 4096 (event_item registry)) ms))
     (optional (codes "system") [] (each_up_to 256 (system_item registry)) ms))

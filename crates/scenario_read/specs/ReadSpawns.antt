@@ -1,5 +1,5 @@
 -- The table of a spawn: `count`, `with`, `disabled`.
-use Rattle.std.specs.Prelude.{ℕ, ◌+◌, Bool, not, ◌&&◌, ◌==◌, if◌then◌else◌, List, [], ◌∷◌, length, fold, codes, Option, None, Some, Ok, Err}
+use Rattle.std.specs.Prelude.{ℕ, ◌+◌, Bool, not, ◌&&◌, ◌==◌, if◌then◌else◌, List, [], ◌∷◌, length, fold, codes, Ok, Err}
 use Rattle.toml.specs.Data.{Data, string, integer, Items, no_items, item, Members, no_members, member}
 use Rattle.ent_types.specs.declared.kinds.FieldKind.{FieldKind}
 use Rattle.ent_types.specs.declared.kinds.FieldKind.TheVariants.{I32, I64, Ref as RefKind}
@@ -9,12 +9,12 @@ use Rattle.ent_types.specs.declared.value.Value.TheVariants.{Int}
 use Rattle.ent_types.specs.Fitting.{fits_field}
 use Rattle.ent_types.specs.Registries.{type_at}
 use Rattle.ent_types.specs.TypeSets.{has_type, with_type}
-use Rattle.expr_read.specs.declared.tree.Expr.TheVariants.{Number}
-use Rattle.expr_read.specs.declared.tree.ValueExpr.{ValueExpr}
-use Rattle.expr_read.specs.declared.tree.ValueExpr.TheVariants.{Int as IntExpr, Ref as RefExpr}
-use Rattle.expr_read.specs.declared.tree.PartExpr.{PartExpr}
+use Rattle.expr_trees.specs.declared.tree.Expr.TheVariants.{Number}
+use Rattle.expr_trees.specs.declared.tree.ValueExpr.{ValueExpr}
+use Rattle.expr_trees.specs.declared.tree.ValueExpr.TheVariants.{Int as IntExpr, Ref as RefExpr}
+use Rattle.expr_trees.specs.declared.tree.PartExpr.{PartExpr}
 use Rattle.scenario_read.specs.declared.fault.Cause.TheVariants.{WrongType, NumberRange, WrongCount}
-use Rattle.scenario_read.specs.declared.record.SpawnEntry.{SpawnEntry}
+use Rattle.scenario_record.specs.declared.record.SpawnEntry.{SpawnEntry}
 use Rattle.scenario_read.specs.Faults.{Reading, bad, under, at_place, and_then, changed, unless, fault_if}
 use Rattle.scenario_read.specs.ReadKeys.{unknown_key, optional, number, text, list, members, item_count}
 use Rattle.scenario_read.specs.ReadTexts.{spawn_expr, spawn_ref}

@@ -1,10 +1,8 @@
 -- The table of a system: `name`, `group`, the keys that place it, `every`, the five clauses, the filters, and what it
 -- does with each row.
-use Rattle.std.specs.Prelude.{ℕ, ◌+◌, Bool, true, false, not, ◌&&◌, ◌==◌, if◌then◌else◌, List, [], ◌∷◌, length, codes, fold, Option, None, Some, Ok, Err}
+use Rattle.std.specs.Prelude.{ℕ, ◌+◌, Bool, true, false, not, ◌&&◌, ◌==◌, if◌then◌else◌, List, [], ◌∷◌, length, codes, fold, Ok, Err}
 use Rattle.toml.specs.Data.{Data, integer, Items, no_items, item, Members, no_members, member}
-use Rattle.ent_types.specs.declared.kinds.Kind.{Kind}
 use Rattle.ent_types.specs.declared.kinds.FieldKind.{FieldKind}
-use Rattle.ent_types.specs.declared.kinds.Kind.TheVariants.{Plain, Tag, Shared, Cleanup}
 use Rattle.ent_types.specs.declared.type_info.FieldInfo.{FieldInfo}
 use Rattle.ent_types.specs.declared.type_info.TypeInfo.{TypeInfo}
 use Rattle.ent_types.specs.declared.value.Value.{Value}
@@ -15,13 +13,12 @@ use Rattle.ent_types.specs.Registries.{type_at}
 use Rattle.ent_types.specs.TypeSets.{has_type, with_type}
 use Rattle.expr_read.specs.ScopeOf.{is_shared}
 use Rattle.scenario_read.specs.declared.fault.Cause.TheVariants.{WrongType, NumberRange, WrongCount, BadShape}
-use Rattle.scenario_read.specs.declared.groups.Placement.{Placement}
 use Rattle.scenario_read.specs.declared.systems.Clauses.{Clauses}
 use Rattle.scenario_read.specs.declared.systems.Filters.{Filters}
 use Rattle.scenario_read.specs.declared.systems.Acts.{Acts}
 use Rattle.scenario_read.specs.declared.system_list.Heading.{Heading}
 use Rattle.scenario_read.specs.declared.system_list.Body.{Body}
-use Rattle.scenario_read.specs.declared.record.SystemEntry.{SystemEntry}
+use Rattle.scenario_record.specs.declared.record.SystemEntry.{SystemEntry}
 use Rattle.scenario_read.specs.declared.type_lists.Named.{Named}
 use Rattle.scenario_read.specs.Faults.{Reading, bad, under, at_place, and_then, changed, unless, fault_if}
 use Rattle.scenario_read.specs.ReadKeys.{unknown_key, required, optional, truth, number, name, list, members_up_to, each_up_to, item_count, members}

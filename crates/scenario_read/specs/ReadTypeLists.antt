@@ -1,13 +1,13 @@
 -- Lists of type names, and the tables whose keys are type names.
-use Rattle.std.specs.Prelude.{ℕ, ◌+◌, Bool, not, ◌||◌, if◌then◌else◌, List, [], ◌∷◌, Option, None, Some, Ok, Err}
+use Rattle.std.specs.Prelude.{ℕ, ◌+◌, Bool, not, List, [], Ok}
 use Rattle.toml.specs.Data.{Data, Items, no_items, item}
 use Rattle.ent_types.specs.declared.type_info.TypeInfo.{TypeInfo}
 use Rattle.ent_types.specs.Registries.{type_named}
 use Rattle.ent_types.specs.TypeSets.{has_type, with_type}
 use Rattle.scenario_read.specs.declared.fault.Cause.TheVariants.{UnknownName, BadKind, DuplicateName}
 use Rattle.scenario_read.specs.declared.type_lists.Named.{Named}
-use Rattle.scenario_read.specs.Faults.{Reading, bad, at_place, and_then, unless, or_fault, fault_if}
-use Rattle.scenario_read.specs.ReadKeys.{name, name_in, list, list_up_to}
+use Rattle.scenario_read.specs.Faults.{Reading, at_place, and_then, unless, or_fault, fault_if}
+use Rattle.scenario_read.specs.ReadKeys.{name, name_in, list_up_to}
 
 -- the type of a name; `fits` says which types may stand there
 abbrev pub fitting_type : (ℕ → Bool) → ℕ → Reading ℕ

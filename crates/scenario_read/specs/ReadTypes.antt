@@ -1,5 +1,5 @@
 -- The table of a type: `name`, `kind`, `fields`, `enableable`.
-use Rattle.std.specs.Prelude.{ℕ, ◌+◌, ◌-◌, Bool, true, false, not, if◌then◌else◌, List, [], ◌∷◌, ◌++◌, length, take, drop, codes, Option, None, Some, is_some, option_map, Ok, Err}
+use Rattle.std.specs.Prelude.{ℕ, ◌+◌, ◌-◌, false, not, if◌then◌else◌, List, [], ◌∷◌, ◌++◌, length, take, drop, codes, Option, None, Some, is_some, option_map, Ok}
 use Rattle.std.specs.List.{list_any}
 use Rattle.toml.specs.Data.{Data, Items, no_items, item, Members}
 use Rattle.ent_types.specs.declared.kinds.Kind.{Kind}
@@ -12,7 +12,7 @@ use Rattle.ent_types.specs.Names.{name_of}
 use Rattle.ent_types.specs.Types.{same_name, is_lawful_type}
 use Rattle.ent_types.specs.Registries.{type_named, built_in_types}
 use Rattle.scenario_read.specs.declared.fault.Cause.TheVariants.{BadWord, BadShape, DuplicateName}
-use Rattle.scenario_read.specs.Faults.{Reading, bad, under, at_place, and_then, changed, unless, or_fault, fault_if}
+use Rattle.scenario_read.specs.Faults.{Reading, under, at_place, and_then, changed, unless, or_fault, fault_if}
 use Rattle.scenario_read.specs.ReadKeys.{unknown_key, required, optional, truth, text, name, list_up_to, members}
 
 -- ---- `kind`

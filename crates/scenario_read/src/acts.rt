@@ -13,7 +13,7 @@ use crate::keys::{list_up_to, value_of};
 use crate::systems::{Acts, Clauses, bound_types};
 use crate::texts::{system_assign, system_switch};
 use ent_types::{Registry, Sequence, TypeSet};
-use expr_read::{Assign, Switch};
+use expr_trees::{Assign, Switch};
 use std::alloc::Global;
 use toml::{Table, Value};
 

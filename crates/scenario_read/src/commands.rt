@@ -2,8 +2,8 @@
 ghost use Rattle.std.specs.Prelude.{◌≡◌, ◌≤◌, pos, [], codes, length, IfOk};
 ghost use Rattle.toml.specs.View.{view, items_view, table_view};
 ghost use Rattle.ent_types.specs.declared.point.Point.TheVariants.{EndSimulation};
-ghost use Rattle.expr_read.specs.declared.tree.Expr.TheVariants as exprs;
-ghost use Rattle.expr_read.specs.declared.tree.Variable.TheVariants as variables;
+ghost use Rattle.expr_trees.specs.declared.tree.Expr.TheVariants as exprs;
+ghost use Rattle.expr_trees.specs.declared.tree.Variable.TheVariants as variables;
 ghost use Rattle.scenario_read.specs.declared.fault.Cause.TheVariants.{BadWord};
 ghost use Rattle.scenario_read.specs.Faults.{Answers, and_then, or_fault};
 ghost use Rattle.scenario_read.specs.ReadKeys.{required, optional, members};
@@ -13,10 +13,11 @@ ghost use Rattle.scenario_read.specs.ReadCommands.{point_named, point, same_poin
 use crate::fault::{Cause, ScenarioFault};
 use crate::faults::{at_place, bad, under};
 use crate::keys::{list_up_to, members, missing, only_known, text, value_of};
-use crate::record::CommandEntry;
 use crate::texts::{system_command, system_expr};
 use ent_types::{Memory, Name, Point, Registry, Sequence, TypeSet};
-use expr_read::{CommandText, Expr, Made, Variable};
+use expr_read::Made;
+use expr_trees::{CommandText, Expr, Variable};
+use scenario_record::CommandEntry;
 use std::alloc::Global;
 use toml::{Table, Value};
 

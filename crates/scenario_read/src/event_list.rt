@@ -10,10 +10,10 @@ use crate::events::{EventKeys, delay_at, event_of, frame_at, load_at, name_at};
 use crate::fault::ScenarioFault;
 use crate::faults::{at_place, under};
 use crate::keys::{list_up_to, members, only_known, value_of};
-use crate::record::EventEntry;
 use crate::texts::event_command;
 use ent_types::{Registry, Sequence};
-use expr_read::CommandText;
+use expr_trees::CommandText;
+use scenario_record::EventEntry;
 use std::alloc::Global;
 use toml::{Table, Value};
 

@@ -8,9 +8,9 @@ ghost use Rattle.scenario_read.specs.ReadEvents.{file_name_in, file_name, load_a
 use crate::fault::{Cause, ScenarioFault};
 use crate::faults::{bad, under};
 use crate::keys::{missing, name, number, text, value_of};
-use crate::record::{EventAct, EventEntry, FileName};
 use ent_types::{Name, Sequence};
-use expr_read::CommandText;
+use expr_trees::CommandText;
+use scenario_record::{EventAct, EventEntry, FileName};
 use std::alloc::Global;
 use toml::{Table, Value};
 

@@ -9,8 +9,8 @@ use crate::fault::{Cause, ScenarioFault};
 use crate::faults::{at_place, bad, under};
 use crate::keyed::{name_or, names_at, own_name, truth_at};
 use crate::keys::{list_up_to, members, only_known, value_of};
-use crate::record::GroupEntry;
 use ent_types::{Name, Sequence};
+use scenario_record::GroupEntry;
 use std::alloc::Global;
 use toml::{Table, Value};
 

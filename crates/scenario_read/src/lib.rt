@@ -12,9 +12,9 @@ mod groups;
 mod keyed;
 mod keys;
 mod reader;
-mod record;
 mod shared;
 mod spawns;
+mod stages;
 mod system_list;
 mod systems;
 #[cfg(test)]
@@ -26,7 +26,8 @@ mod values;
 mod whole;
 
 pub use fault::{BadScenario, Cause, KeyPath, ScenarioFault};
+pub use faults::{bad, below_key, below_place, whole_fault};
 pub use reader::read_scenario;
-pub use record::{
+pub use scenario_record::{
     CommandEntry, EventAct, EventEntry, FileName, GroupEntry, Scenario, SpawnEntry, SystemEntry,
 };

@@ -9,11 +9,11 @@ use crate::fault::ScenarioFault;
 use crate::faults::{at_place, under};
 use crate::keyed::number_at;
 use crate::keys::{list, list_up_to, members, only_known, value_of};
-use crate::record::SpawnEntry;
 use crate::type_lists::{Fitting, each_type, type_of_key};
 use crate::values::part_values;
 use ent_types::{Registry, Sequence, TypeId, TypeSet};
-use expr_read::PartExpr;
+use expr_trees::PartExpr;
+use scenario_record::SpawnEntry;
 use std::alloc::Global;
 use toml::{Table, Value};
 

@@ -11,9 +11,9 @@ use crate::faults::{at_place, bad, under};
 use crate::groups::{Placement, default_group, placement_of};
 use crate::keyed::{name_or, number_at, own_name};
 use crate::keys::{list_up_to, members, only_known, value_of};
-use crate::record::SystemEntry;
 use crate::systems::{Acts, Clauses, Filters, clauses_of, filters_of};
 use ent_types::{Name, Registry, Sequence};
+use scenario_record::SystemEntry;
 use std::alloc::Global;
 use toml::{Table, Value};
 

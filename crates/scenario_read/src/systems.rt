@@ -10,11 +10,11 @@ use crate::fault::ScenarioFault;
 use crate::faults::under;
 use crate::keyed::truth_at;
 use crate::keys::value_of;
-use crate::record::CommandEntry;
 use crate::shared::shared_at;
 use crate::type_lists::{Fitting, Named, type_list};
 use ent_types::{Part, Registry, Sequence, TypeSet};
-use expr_read::{Assign, Switch};
+use expr_trees::{Assign, Switch};
+use scenario_record::CommandEntry;
 use std::alloc::Global;
 use toml::{Table, Value};
 

@@ -1,10 +1,10 @@
 //! The texts of a scenario.
 ghost use Rattle.std.specs.Prelude.{◌≡◌, [], Some, Result};
 ghost use Rattle.toml.specs.View.{view};
-ghost use Rattle.expr_read.specs.declared.fault.ExprFault.{ExprFault};
+ghost use Rattle.expr_grammar.specs.declared.fault.ExprFault.{ExprFault};
 ghost use Rattle.expr_read.specs.declared.scope.TextPlace.TheVariants.{System};
 ghost use Rattle.expr_read.specs.ScopeOf.{scope_of};
-ghost use Rattle.expr_read.specs.Answers.{Tells, expr_answer, ref_answer, assign_answer, switch_answer, command_answer};
+ghost use Rattle.expr_grammar.specs.Answers.{Tells, expr_answer, ref_answer, assign_answer, switch_answer, command_answer};
 ghost use Rattle.scenario_read.specs.declared.fault.ScenarioFault.TheVariants.{Bad};
 ghost use Rattle.scenario_read.specs.Faults.{Answers};
 ghost use Rattle.scenario_read.specs.ReadTexts.{IsTold, told, system_expr, system_assign, system_switch, system_command, spawn_expr, spawn_ref, event_command};
@@ -13,9 +13,10 @@ use crate::fault::{BadScenario, Cause, ScenarioFault};
 use crate::keys::text;
 use ent_types::{Registry, Sequence, TypeSet};
 use expr_read::{
-    Assign, CommandText, Expr, ExprCause, ExprFault, Made, RefExpr, Scope, Switch, TextPlace,
-    read_assign, read_command, read_expr, read_ref, read_switch,
+    ExprCause, ExprFault, Made, Scope, TextPlace, read_assign, read_command, read_expr, read_ref,
+    read_switch,
 };
+use expr_trees::{Assign, CommandText, Expr, RefExpr, Switch};
 use std::alloc::Global;
 use toml::Value;
 

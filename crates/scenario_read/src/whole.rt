@@ -1,10 +1,9 @@
 //! A whole scenario: its own keys, and the lists of tables.
-ghost use Rattle.std.specs.Prelude.{◌≡◌, codes};
-ghost use Rattle.toml.specs.Data.{table as table_of, get_member};
-ghost use Rattle.toml.specs.View.{view, items_view, table_view};
+ghost use Rattle.std.specs.Prelude.{codes};
+ghost use Rattle.toml.specs.View.{table_view};
 ghost use Rattle.scenario_read.specs.Faults.{Answers};
 ghost use Rattle.scenario_read.specs.ReadKeys.{required, number};
-ghost use Rattle.scenario_read.specs.ReadScenario.{numbers, has_key, places_one, places_any, places_in, is_placed, tables, top_keys, top_table};
+ghost use Rattle.scenario_read.specs.ReadScenario.{numbers, tables, top_keys, top_table};
 
 use crate::event_list::events_at;
 use crate::fault::ScenarioFault;
@@ -12,13 +11,14 @@ use crate::faults::under;
 use crate::groups::groups_at;
 use crate::keyed::number_at;
 use crate::keys::{missing, number, only_known, value_of};
-use crate::record::Scenario;
 use crate::spawns::spawns_at;
+use crate::stages::{is_placed, is_unbuilt};
 use crate::system_list::systems_at;
 use crate::types::registry_at;
 use ent_types::Registry;
+use scenario_record::Scenario;
 use std::alloc::Global;
-use toml::{Table, Value};
+use toml::Table;
 
 /// The greatest number of frames.
 const MOST_FRAMES: u32 = 100_000;
@@ -69,58 +69,6 @@ pub(crate) fn numbers_of(alloc: Global, table: &Table) -> Result<Numbers, Scenar
     })
 }
 
-/// Says whether a table has a key.
-fn has_key(table: &Table, key: &str) -> bool
-    ensures { result ≡ has_key key.now (table_view table.now) }
-{
-    value_of(table, key).is_some()
-}
-
-/// Says whether a table has a key that places a system.
-fn places(table: &Table) -> bool
-    ensures { result ≡ places_one (table_of (table_view table.now)) }
-{
-    has_key(table, "group")
-        || (has_key(table, "before")
-            || (has_key(table, "after") || (has_key(table, "first") || has_key(table, "last"))))
-}
-
-fn places_one(value: &Value) -> bool
-    ensures { result ≡ places_one (view value.now) }
-{
-    match value {
-        Value::Table(table) => places(table),
-        _ => false,
-    }
-}
-
-fn places_any(values: &[Value]) -> bool
-    ensures { result ≡ places_any (items_view values.now) }
-{
-    for value in values {
-        if places_one(value) {
-            return true;
-        }
-    }
-    false
-}
-
-fn places_in(table: &Table) -> bool
-    ensures { result ≡ places_in (get_member (codes "system") (table_view table.now)) }
-{
-    match value_of(table, "system") {
-        Some(Value::Array(values)) => places_any(values.as_slice()),
-        _ => false,
-    }
-}
-
-/// Says whether some key places a group or a system among its siblings.
-fn is_placed(table: &Table) -> bool
-    ensures { result ≡ is_placed (table_view table.now) }
-{
-    has_key(table, "group") || places_in(table)
-}
-
 fn tables(
     alloc: Global,
     numbers: Numbers,
@@ -143,6 +91,7 @@ fn tables(
         system,
         event,
         placed: is_placed(table),
+        unbuilt: is_unbuilt(table),
     })
 }
 

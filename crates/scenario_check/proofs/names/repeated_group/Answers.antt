@@ -1,5 +1,5 @@
 use Rattle.std.proofs.Common.{true, false, sym, ◌∙◌}
-use Rattle.scenario_read.specs.declared.record.GroupEntry.{GroupEntry}
+use Rattle.scenario_record.specs.declared.record.GroupEntry.{GroupEntry}
 use Rattle.scenario_check.specs.Checks.{root_groups}
 use Rattle.scenario_check.proofs.NameLemmas.{repeated_step}
 use Rattle.scenario_check.proofs.names.repeated_group.Goals as goal

@@ -1,8 +1,8 @@
 use Rattle.std.proofs.Common.{◌||◌, ◌++◌, map, true, false, Bool, sym, ap, ◌∙◌, take}
 use Rattle.std.specs.List.{list_any}
 use Rattle.ent_types.specs.Types.{same_name}
-use Rattle.scenario_read.specs.declared.record.GroupEntry.{GroupEntry}
-use Rattle.scenario_read.specs.declared.record.SystemEntry.{SystemEntry}
+use Rattle.scenario_record.specs.declared.record.GroupEntry.{GroupEntry}
+use Rattle.scenario_record.specs.declared.record.SystemEntry.{SystemEntry}
 use Rattle.scenario_check.specs.Checks.{root_groups}
 use Rattle.scenario_check.proofs.NameLemmas.{repeated_step, known_any}
 use Rattle.scenario_check.proofs.names.repeated_system.Goals as goal

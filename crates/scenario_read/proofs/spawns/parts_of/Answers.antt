@@ -1,7 +1,7 @@
 use Rattle.std.proofs.Common.{◌≡◌, ◌∙◌, ◌<◌, All, Ok, sym, ap, subst, arith, string_bytes}
 use Rattle.std.proofs.lemmas.Grind.{common_steps}
 use Rattle.std.proofs.lemmas.List.Elements.{All-push}
-use Rattle.expr_read.specs.declared.tree.PartExpr.{PartExpr}
+use Rattle.expr_trees.specs.declared.tree.PartExpr.{PartExpr}
 use Rattle.toml.specs.View.{view, members_view}
 use Rattle.scenario_read.specs.ReadSpawns.{part, parts_of}
 use Rattle.scenario_read.proofs.ListLemmas.{onto}

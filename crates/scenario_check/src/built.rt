@@ -1,0 +1,117 @@
+//! Which scenarios are of a form that is run.
+ghost use Rattle.std.specs.Prelude.{◌≡◌, map};
+ghost use Rattle.std.specs.List.{list_all};
+ghost use Rattle.scenario_check.specs.Built.{is_built_kind, are_built_types, is_built_in_tag, names_built_in, tested_by, is_built_spawn, is_built_system, is_built};
+
+use crate::touched::{Wanted, in_assigns};
+use ent_types::{Kind, Registry, TypeId, TypeInfo, TypeSet};
+use expr_trees::PartExpr;
+use scenario_record::{Scenario, SpawnEntry, SystemEntry};
+
+/// The number of built-in types, which come before the declared ones.
+const BUILT_IN: usize = 3;
+
+/// The number of built-in tags, `Disabled` and `Prefab`, which come before all other types.
+const BUILT_IN_TAGS: u16 = 2;
+
+fn is_built_kind(kind: Kind) -> bool
+    ensures { result ≡ is_built_kind kind }
+{
+    match kind {
+        Kind::Plain => true,
+        Kind::Tag => true,
+        Kind::Shared => false,
+        Kind::Cleanup => false,
+    }
+}
+
+fn are_built_kinds(types: &[TypeInfo]) -> bool
+    ensures { result ≡ list_all (λ t. is_built_kind t.kind) types.now }
+{
+    types.iter().all(|info| is_built_kind(info.kind))
+}
+
+/// Says whether each declared type is of a kind that is run.
+fn are_built_types(registry: &Registry) -> bool
+    ensures { result ≡ are_built_types registry.now }
+{
+    let are_there = registry.len() >= BUILT_IN;
+    prove!(are_there);
+    are_built_kinds(&registry.types()[BUILT_IN..])
+}
+
+fn is_built_in_tag(ty: TypeId) -> bool
+    ensures { result ≡ is_built_in_tag ty.0 }
+{
+    ty.0 < BUILT_IN_TAGS
+}
+
+/// Says whether a set has a built-in tag.
+#[tactic(auto, using(crate::proofs::BuiltLemmas::has_tags))]
+fn has_built_in(types: &TypeSet) -> bool
+    ensures { result ≡ names_built_in types.now }
+{
+    types.has(TypeId(0)) || types.has(TypeId(1))
+}
+
+/// Says whether a built-in tag is among the types of some parts.
+fn parts_name_built_in(parts: &[PartExpr]) -> bool
+    ensures { result ≡ names_built_in (map (λ part. part.ty.0) parts.now) }
+{
+    for part in parts {
+        if is_built_in_tag(part.ty) {
+            return true;
+        }
+    }
+    false
+}
+
+/// Says whether the assigns of a system name a built-in tag by `has` or `on`.
+#[tactic(auto, using(crate::proofs::BuiltLemmas::in_the_set))]
+fn tests_built_in(system: &SystemEntry) -> bool
+    ensures { result ≡ names_built_in (tested_by system.now) }
+{
+    let tested = in_assigns(Wanted::Tested, system.set.as_slice(), TypeSet::empty());
+    has_built_in(&tested)
+}
+
+fn is_built_spawn(spawn: &SpawnEntry) -> bool
+    ensures { result ≡ is_built_spawn spawn.now }
+{
+    !parts_name_built_in(spawn.parts.as_slice())
+}
+
+fn is_built_system(system: &SystemEntry) -> bool
+    ensures { result ≡ is_built_system system.now }
+{
+    !(has_built_in(&system.all) || tests_built_in(system))
+}
+
+fn are_built_spawns(spawns: &[SpawnEntry]) -> bool
+    ensures { result ≡ list_all is_built_spawn spawns.now }
+{
+    spawns.iter().all(|spawn| is_built_spawn(spawn))
+}
+
+fn are_built_systems(systems: &[SystemEntry]) -> bool
+    ensures { result ≡ list_all is_built_system systems.now }
+{
+    systems.iter().all(|system| is_built_system(system))
+}
+
+/// Says whether a scenario is of a form that is run.
+///
+/// It is, where no key is there of those that aren't run yet, no declared type is shared or a cleanup type, there is no
+/// event, and the built-in tags `Disabled` and `Prefab` are in no spawn, in no system's `all`, and in no `has` or `on` of
+/// a system's `set`. A scenario of another form is `NotBuilt` when it is run, after all other faults. As more forms are
+/// run this refuses fewer, and in the end it goes away.
+#[tactic(auto, unfolding(crate::specs::Built::is_built))]
+pub fn is_built(scenario: &Scenario) -> bool
+    ensures { result ≡ is_built scenario.now }
+{
+    !scenario.unbuilt
+        && are_built_types(&scenario.registry)
+        && scenario.event.is_empty()
+        && are_built_spawns(scenario.spawn.as_slice())
+        && are_built_systems(scenario.system.as_slice())
+}
