@@ -1,10 +1,10 @@
 -- What an expression reads.
 use Rattle.std.specs.Prelude.{ℕ, Bool, true, ◌&&◌}
 use Rattle.ent_types.specs.declared.entity.TypeId.{TypeId}
-use Rattle.expr_read.specs.declared.tree.Expr.{Expr, fold-Expr}
-use Rattle.expr_read.specs.declared.tree.Expr.TheOpen.{Expr-F}
-use Rattle.expr_read.specs.declared.tree.RefExpr.{RefExpr}
-use Rattle.expr_read.specs.declared.tree.RefExpr.TheVariants as refs
+use Rattle.expr_trees.specs.declared.tree.Expr.{Expr, fold-Expr}
+use Rattle.expr_trees.specs.declared.tree.Expr.TheOpen.{Expr-F}
+use Rattle.expr_trees.specs.declared.tree.RefExpr.{RefExpr}
+use Rattle.expr_trees.specs.declared.tree.RefExpr.TheVariants as refs
 
 -- each own field that the reference names is there
 abbrev pub ref_reads : (TypeId → ℕ → Bool) → RefExpr → Bool

@@ -10,16 +10,16 @@ use Rattle.ent_types.specs.declared.value.Value.{Value}
 use Rattle.ent_types.specs.declared.value.Value.TheVariants.{Int, Ref}
 use Rattle.ent_types.specs.Fitting.{null_entity}
 use Rattle.world_model.specs.Enter.{same_entity}
-use Rattle.expr_read.specs.declared.tree.Expr.{Expr, fold-Expr}
-use Rattle.expr_read.specs.declared.tree.Expr.TheOpen.{Expr-F}
-use Rattle.expr_read.specs.declared.tree.RefExpr.{RefExpr}
-use Rattle.expr_read.specs.declared.tree.RefExpr.TheVariants as refs
-use Rattle.expr_read.specs.declared.tree.Variable.{Variable}
-use Rattle.expr_read.specs.declared.tree.Variable.TheVariants.{Frame, Chunk, Row, Index, Version, N}
-use Rattle.expr_read.specs.declared.tree.UnaryOp.{UnaryOp}
-use Rattle.expr_read.specs.declared.tree.UnaryOp.TheVariants as unary
-use Rattle.expr_read.specs.declared.tree.BinaryOp.{BinaryOp}
-use Rattle.expr_read.specs.declared.tree.BinaryOp.TheVariants as binary
+use Rattle.expr_trees.specs.declared.tree.Expr.{Expr, fold-Expr}
+use Rattle.expr_trees.specs.declared.tree.Expr.TheOpen.{Expr-F}
+use Rattle.expr_trees.specs.declared.tree.RefExpr.{RefExpr}
+use Rattle.expr_trees.specs.declared.tree.RefExpr.TheVariants as refs
+use Rattle.expr_trees.specs.declared.tree.Variable.{Variable}
+use Rattle.expr_trees.specs.declared.tree.Variable.TheVariants.{Frame, Chunk, Row, Index, Version, N}
+use Rattle.expr_trees.specs.declared.tree.UnaryOp.{UnaryOp}
+use Rattle.expr_trees.specs.declared.tree.UnaryOp.TheVariants as unary
+use Rattle.expr_trees.specs.declared.tree.BinaryOp.{BinaryOp}
+use Rattle.expr_trees.specs.declared.tree.BinaryOp.TheVariants as binary
 
 -- what an expression sees of its own row, and of where the row is met
 pub record OwnRow : Type 0 where

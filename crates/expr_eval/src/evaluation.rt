@@ -7,10 +7,10 @@ ghost use Rattle.expr_eval.specs.Rows.{others_of};
 use crate::operators::{binary, is_true, truth, unary};
 use crate::{Lookup, RowReader};
 use ent_types::{Entity, Value};
-use expr_read::{Expr, RefExpr, Variable};
+use expr_trees::{Expr, RefExpr, Variable};
 
-/// The number of a value; a reference counts as 0.
-fn number(value: Value) -> i64
+/// The number of a value; a reference counts as 0. This project's own.
+pub fn number(value: Value) -> i64
     ensures { result ≡ number value }
 {
     match value {

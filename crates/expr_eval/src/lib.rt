@@ -9,5 +9,6 @@ mod test_rows;
 #[cfg(test)]
 mod tests;
 
-pub use evaluation::{eval, eval_ref};
+pub use evaluation::{eval, eval_ref, number};
+pub use operators::{binary, is_true, unary};
 pub use readers::{Lookup, RowReader};

@@ -4,7 +4,7 @@ ghost use Rattle.expr_eval.specs.Values.{truth, is_true, quotient, rest, value_u
 ghost use Rattle.std.specs.Int.{int_wrap};
 ghost use Rattle.std.proofs.Common.{w64};
 
-use expr_read::{BinaryOp, UnaryOp};
+use expr_trees::{BinaryOp, UnaryOp};
 
 /// 1 for true, 0 for false.
 pub(crate) fn truth(b: bool) -> i64
@@ -13,8 +13,8 @@ pub(crate) fn truth(b: bool) -> i64
     if b { 1 } else { 0 }
 }
 
-/// Anything but 0 is true.
-pub(crate) fn is_true(a: i64) -> bool
+/// Whether a number counts as true: anything but 0 does. This project's own.
+pub fn is_true(a: i64) -> bool
     ensures { result ≡ is_true a }
 {
     a != 0
@@ -62,8 +62,8 @@ fn rest(a: i64, b: i64) -> i64
     if b == 0 { 0 } else { a.wrapping_rem(b) }
 }
 
-/// The value of a sign over a number.
-pub(crate) fn unary(op: UnaryOp, a: i64) -> i64
+/// The value of a sign over a number, wrapped to 64 bits. This project's own.
+pub fn unary(op: UnaryOp, a: i64) -> i64
     ensures { result ≡ value_unary op a }
 {
     match op {
@@ -72,8 +72,9 @@ pub(crate) fn unary(op: UnaryOp, a: i64) -> i64
     }
 }
 
-/// The value of an operator over two numbers.
-pub(crate) fn binary(op: BinaryOp, a: i64, b: i64) -> i64
+/// The value of an operator over two numbers, wrapped to 64 bits; a question gives 1 or 0, and a division by 0 gives 0.
+/// This project's own.
+pub fn binary(op: BinaryOp, a: i64, b: i64) -> i64
     ensures { result ≡ value_binary op a b }
 {
     match op {

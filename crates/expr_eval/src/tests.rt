@@ -4,7 +4,7 @@ ghost use Rattle.std.specs.Prelude.{◌≡◌, ◌==◌, not, true};
 use crate::test_rows::{DYING, FULL, ME, OtherRows, OwnRow};
 use crate::{eval, eval_ref};
 use ent_types::{Entity, TypeId};
-use expr_read::{BinaryOp, Expr, RefExpr, UnaryOp, Variable};
+use expr_trees::{BinaryOp, Expr, RefExpr, UnaryOp, Variable};
 use sqlite_items::Boxed;
 use std::alloc::{AllocError, Global};
 use std::test::Fail;

@@ -1,30 +1,31 @@
 -- What is appended to a line is the line's text.
-use Rattle.std.proofs.Common.{ℕ, ℤ, ◌≡◌, ◌<◌, List, [], ◌∷◌, ◌++◌, map, codes, Vec, refl, sym, ap, ◌∙◌, subst, append_assoc, lit<, pos, length, get_or, arith}
+use Rattle.std.proofs.Common.{ℕ, ◌≡◌, ◌<◌, List, [], ◌∷◌, ◌++◌, map, codes, Vec, refl, sym, ap, ◌∙◌, subst, append_assoc, lit<, pos, length, get_or, arith}
 use Rattle.std.proofs.lemmas.List.{append-nil, get_or_read}
 use Rattle.std.proofs.lemmas.Fmt.{decimal_digit}
 use Rattle.std.specs.List.{All, flat_map, join_with_byte}
-use Rattle.std.specs.Fmt.{decimal, signed_decimal}
+use Rattle.std.specs.Fmt.{decimal}
 use Rattle.std.specs.declared.alloc.Global.{Global}
+use Rattle.ent_types.specs.declared.value.Value.{Value}
+use Rattle.ent_types.specs.declared.value.Value.TheVariants.{Int}
 use Rattle.ent_types.specs.declared.type_info.TypeInfo.{TypeInfo}
 use Rattle.plain_world.specs.declared.block.TypeColumns.{TypeColumns}
-use Rattle.plain_world.specs.Plain.{part_of, parts_of, cell_at, row_at, number_at}
+use Rattle.plain_world.specs.Plain.{part_of, parts_of, cell_at, row_at, value_at}
 use Rattle.plain_text.specs.Lines.{value_text, values_text, cell_text, row_line, entity_text, world_line}
-use Rattle.plain_text.specs.Columns.{HasRow, values_in, comma_number, cell_text_at}
+use Rattle.plain_text.specs.Columns.{HasRow, values_in, comma_value, cell_text_at}
 
 -- the values behind the first
-further-joined : (row : ℕ) (c : Vec ℤ Global) (cs : List (Vec ℤ Global))
-    → join_with_byte 44 (map value_text (values_in row (c ∷ cs))) ≡ signed_decimal (number_at row c.items) ++ flat_map (comma_number row) cs
-unfolding value_text
-further-joined row c [] = sym (append-nil (signed_decimal (number_at row c.items)))
+further-joined : (row : ℕ) (c : Vec Value Global) (cs : List (Vec Value Global))
+    → join_with_byte 44 (map value_text (values_in row (c ∷ cs))) ≡ value_text (value_at row c.items) ++ flat_map (comma_value row) cs
+further-joined row c [] = sym (append-nil (value_text (value_at row c.items)))
 further-joined row c (d ∷ ds) =
-    ap (λ (l : List ℕ). signed_decimal (number_at row c.items) ++ 44 ∷ l) (further-joined row d ds)
+    ap (λ (l : List ℕ). value_text (value_at row c.items) ++ 44 ∷ l) (further-joined row d ds)
 
-pub values_text-some : (row : ℕ) (c : Vec ℤ Global) (cs : List (Vec ℤ Global))
-    → values_text (values_in row (c ∷ cs)) ≡ 40 ∷ (signed_decimal (number_at row c.items) ++ (flat_map (comma_number row) cs ++ 41 ∷ []))
+pub values_text-some : (row : ℕ) (c : Vec Value Global) (cs : List (Vec Value Global))
+    → values_text (values_in row (c ∷ cs)) ≡ 40 ∷ (value_text (value_at row c.items) ++ (flat_map (comma_value row) cs ++ 41 ∷ []))
 unfolding values_text
 values_text-some row c cs =
     ap (λ (l : List ℕ). 40 ∷ (l ++ 41 ∷ [])) (further-joined row c cs)
-    ∙ ap (λ (l : List ℕ). 40 ∷ l) (append_assoc (signed_decimal (number_at row c.items)) (flat_map (comma_number row) cs) (41 ∷ []))
+    ∙ ap (λ (l : List ℕ). 40 ∷ l) (append_assoc (value_text (value_at row c.items)) (flat_map (comma_value row) cs) (41 ∷ []))
 
 pub values_text-none : (row : ℕ) → values_text (values_in row []) ≡ []
 unfolding values_text
@@ -45,15 +46,15 @@ row_line-parts registry row index parts =
     ∙ ap (λ (l : List ℕ). l ++ (flat_map (cell_text_at registry row) parts ++ 10 ∷ [])) (append_assoc (decimal index) (codes ":") (49 ∷ []))
     ∙ append_assoc (decimal index) (58 ∷ 49 ∷ []) (flat_map (cell_text_at registry row) parts ++ 10 ∷ [])
 
--- the values, where the first column's number was read
-pub values_text-read : (row : ℕ) (columns : List (Vec ℤ Global)) (c : Vec ℤ Global) (cs : List (Vec ℤ Global)) (z : ℤ)
+-- the values, where the first column's value was read
+pub values_text-read : (row : ℕ) (columns : List (Vec Value Global)) (c : Vec Value Global) (cs : List (Vec Value Global)) (z : Value)
     → columns ≡ c ∷ cs → All (HasRow row) columns → z ≡ get_or c.items row z
-    → values_text (values_in row columns) ≡ 40 ∷ (signed_decimal z ++ (flat_map (comma_number row) cs ++ 41 ∷ []))
+    → values_text (values_in row columns) ≡ 40 ∷ (value_text z ++ (flat_map (comma_value row) cs ++ 41 ∷ []))
 values_text-read row columns c cs z is each read =
     let within : row < length c.items = subst (All (HasRow row)) is each 0 c (omega arith) in
-    ap (λ (l : List (Vec ℤ Global)). values_text (values_in row l)) is
+    ap (λ (l : List (Vec Value Global)). values_text (values_in row l)) is
     ∙ values_text-some row c cs
-    ∙ ap (λ n. 40 ∷ (signed_decimal n ++ (flat_map (comma_number row) cs ++ 41 ∷ []))) (sym (get_or_read c.items row z within read (pos 0)))
+    ∙ ap (λ n. 40 ∷ (value_text n ++ (flat_map (comma_value row) cs ++ 41 ∷ []))) (sym (get_or_read c.items row z within read (Int (pos 0))))
 
 -- one piece was appended, and then another
 then_piece : (old mid new a b : List ℕ) → mid ≡ old ++ a → new ≡ mid ++ b → new ≡ old ++ (a ++ b)

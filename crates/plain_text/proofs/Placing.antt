@@ -9,7 +9,7 @@ use Rattle.std.proofs.lemmas.List.Folds.{find-append}
 use Rattle.world_model.specs.Row.{Row}
 use Rattle.plain_world.specs.declared.block.PlainBlock.{PlainBlock}
 use Rattle.plain_world.specs.Plain.{Part, parts_of, row_at, rows_from}
-use Rattle.plain_text.specs.declared.places.Place.{Place}
+use Rattle.plain_world.specs.declared.block.Place.{Place}
 use Rattle.plain_text.specs.Places.{Tells, TellEach, IsPlaceOf, first_row, all_rows, noted}
 
 -- ---- one row more

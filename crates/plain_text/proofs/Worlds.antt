@@ -1,12 +1,13 @@
 -- The rows of a world in columns: their number, and their lines by index.
 use Rattle.std.proofs.Common.{ℕ, ◌≡◌, ◌+◌, ◌<◌, List, [], ◌∷◌, ◌++◌, length, map, get_or, slice_get, sum_by, fold, take, Option, None, Some, Result, Ok, Err, ◌≤◌, refl, sym, ap, ◌∙◌, subst, arith}
-use Rattle.std.specs.Prelude.{Vec, ℤ}
+use Rattle.std.specs.Prelude.{Vec}
 use Rattle.std.specs.List.{All, flat_map, filter_map, cons_option, range_with_len}
 use Rattle.std.specs.declared.alloc.Global.{Global}
 use Rattle.std.proofs.lemmas.List.Elements.{All-nil, All-cons}
 use Rattle.std.proofs.lemmas.List.{take_all}
 use Rattle.std.proofs.lemmas.List.FromFn.{length-range_with_len, get_or-range_with_len}
 use Rattle.std.proofs.lemmas.Option.{get_or_from_slice_get, slice_get_within}
+use Rattle.ent_types.specs.declared.value.Value.{Value}
 use Rattle.ent_types.specs.declared.type_info.TypeInfo.{TypeInfo}
 use Rattle.world_model.specs.Row.{Row}
 use Rattle.plain_world.specs.declared.block.TypeColumns.{TypeColumns}
@@ -16,14 +17,14 @@ use Rattle.plain_world.proofs.Evens.{even_at}
 use Rattle.plain_text.specs.Lines.{row_line, row_with_index, world_line, world_text}
 use Rattle.plain_text.specs.Columns.{HasRow, HaveRow}
 use Rattle.plain_text.specs.Places.{IsPlaceOf, all_rows, line_of, line_at}
-use Rattle.plain_text.specs.declared.places.Place.{Place}
+use Rattle.plain_world.specs.declared.block.Place.{Place}
 use Rattle.plain_world.specs.declared.world.PlainWorld.{PlainWorld}
 use Rattle.ent_io.specs.Text.{appended, AppendsPrefix, Writes}
 use Rattle.ent_io.proofs.Appends.{appends_both, leaves_all, leaves_rest, prefix_left_last, prefix_left_within}
 
 -- ---- even blocks
 
-long_columns : (columns : List (Vec ℤ Global)) (n row : ℕ) → row < n → AreLong (map (λ c. c.items) columns) n → All (HasRow row) columns
+long_columns : (columns : List (Vec Value Global)) (n row : ℕ) → row < n → AreLong (map (λ c. c.items) columns) n → All (HasRow row) columns
 long_columns [] n row within long = All-nil (HasRow row)
 long_columns (c ∷ cs) n row within long = All-cons (HasRow row) c cs (subst (λ k. row < k) (sym long.0) within) (long_columns cs n row within long.1)
 

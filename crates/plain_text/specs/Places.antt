@@ -4,7 +4,7 @@ use Rattle.ent_types.specs.declared.type_info.TypeInfo.{TypeInfo}
 use Rattle.world_model.specs.Row.{Row}
 use Rattle.plain_world.specs.declared.block.PlainBlock.{PlainBlock}
 use Rattle.plain_world.specs.Plain.{block_of, parts_of, row_at}
-use Rattle.plain_text.specs.declared.places.Place.{Place}
+use Rattle.plain_world.specs.declared.block.Place.{Place}
 use Rattle.plain_text.specs.Lines.{rows_of, row_line}
 
 -- the first of the rows whose entity has this index

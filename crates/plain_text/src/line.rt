@@ -2,12 +2,13 @@
 ghost use Rattle.std.specs.Prelude.{◌≡◌, ◌++◌, OnOk};
 ghost use Rattle.std.specs.List.{All, flat_map};
 ghost use Rattle.std.specs.Fmt.{decimal, signed_decimal};
+ghost use Rattle.ent_types.specs.declared.value.Value.TheVariants as value;
 ghost use Rattle.ent_types.specs.Registries.{type_at};
 ghost use Rattle.plain_world.specs.Plain.{parts_of, row_at};
-ghost use Rattle.plain_text.specs.Lines.{values_text, row_line, world_line};
-ghost use Rattle.plain_text.specs.Columns.{HasRow, HaveRow, values_in, comma_number, cell_text_at};
+ghost use Rattle.plain_text.specs.Lines.{entity_text, value_text, values_text, row_line, world_line};
+ghost use Rattle.plain_text.specs.Columns.{HasRow, HaveRow, values_in, comma_value, cell_text_at};
 
-use ent_types::{Registry, TypeId};
+use ent_types::{Entity, Registry, TypeId, Value};
 use itoa::Buffer;
 use plain_world::TypeColumns;
 use std::alloc::AllocError;
@@ -20,7 +21,7 @@ fn push_count(line: &mut Vec<u8>, number: usize) -> Result<(), AllocError>
     line.extend_from_slice(digits.format(number).as_bytes())
 }
 
-/// Appends the value of a field.
+/// Appends a number.
 fn push_number(line: &mut Vec<u8>, number: i64) -> Result<(), AllocError>
     ensures { OnOk result (line.new.items ≡ line.old.items ++ signed_decimal number) }
 {
@@ -28,21 +29,53 @@ fn push_number(line: &mut Vec<u8>, number: i64) -> Result<(), AllocError>
     line.extend_from_slice(digits.format(number).as_bytes())
 }
 
+/// Appends `index:version`.
+#[tactic(auto, unfolding(crate::specs::Lines::entity_text))]
+fn push_entity(line: &mut Vec<u8>, entity: Entity) -> Result<(), AllocError>
+    ensures { OnOk result (line.new.items ≡ line.old.items ++ entity_text entity) }
+{
+    push_count(line, entity.index as usize)?;
+    line.push(b':')?;
+    push_count(line, entity.version as usize)
+}
+
+/// Appends a reference: `index:version`, or `null` for the null entity.
+#[tactic(auto, unfolding(crate::specs::Lines::value_text))]
+fn push_reference(line: &mut Vec<u8>, entity: Entity) -> Result<(), AllocError>
+    ensures { OnOk result (line.new.items ≡ line.old.items ++ value_text (value.Ref entity)) }
+{
+    if entity.index == 0 && entity.version == 0 {
+        return line.extend_from_slice(b"null");
+    }
+    push_entity(line, entity)
+}
+
+/// Appends the value of a field.
+#[tactic(auto, unfolding(crate::specs::Lines::value_text))]
+fn push_value(line: &mut Vec<u8>, value: Value) -> Result<(), AllocError>
+    ensures { OnOk result (line.new.items ≡ line.old.items ++ value_text value) }
+{
+    match value {
+        Value::Int(number) => push_number(line, number),
+        Value::Ref(entity) => push_reference(line, entity),
+    }
+}
+
 /// Appends the values of the further fields, each behind a comma.
-fn push_further(line: &mut Vec<u8>, fields: &[Vec<i64>], row: usize) -> Result<(), AllocError>
+fn push_further(line: &mut Vec<u8>, fields: &[Vec<Value>], row: usize) -> Result<(), AllocError>
     requires { All (HasRow row) fields.now }
-    ensures { OnOk result (line.new.items ≡ line.old.items ++ flat_map (comma_number row) fields.now) }
+    ensures { OnOk result (line.new.items ≡ line.old.items ++ flat_map (comma_value row) fields.now) }
 {
     for field in fields {
         line.push(b',')?;
-        push_number(line, field[row])?;
+        push_value(line, field[row])?;
     }
     Ok(())
 }
 
 /// Appends the values in parentheses; nothing where there are none.
 #[tactic(auto, unfolding(crate::specs::Lines::values_text))]
-fn push_values(line: &mut Vec<u8>, fields: &[Vec<i64>], row: usize) -> Result<(), AllocError>
+fn push_values(line: &mut Vec<u8>, fields: &[Vec<Value>], row: usize) -> Result<(), AllocError>
     requires { All (HasRow row) fields.now }
     ensures { OnOk result (line.new.items ≡ line.old.items ++ values_text (values_in row fields.now)) }
 {
@@ -50,7 +83,7 @@ fn push_values(line: &mut Vec<u8>, fields: &[Vec<i64>], row: usize) -> Result<()
         return Ok(());
     };
     line.push(b'(')?;
-    push_number(line, first[row])?;
+    push_value(line, first[row])?;
     push_further(line, further, row)?;
     line.push(b')')?;
     Ok(())

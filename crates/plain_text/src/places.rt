@@ -2,17 +2,8 @@
 ghost use Rattle.std.specs.Prelude.{◌≡◌, ◌+◌, ◌<◌, length, take, IfOk, OnOk};
 ghost use Rattle.plain_text.specs.Places.{TellEach, all_rows, noted};
 
-use plain_world::PlainBlock;
+use plain_world::{Place, PlainBlock};
 use std::alloc::{AllocError, Global};
-
-/// Where a row is. It is kept for each index, so it is small.
-#[derive(Clone, Copy, Debug)]
-pub(crate) struct Place {
-    /// The place of its block in the world.
-    pub(crate) block: u32,
-    /// Its place in the block.
-    pub(crate) row: u32,
-}
 
 /// Notes where the row of an index is, where that is asked and wasn't noted before.
 fn note(places: &mut [Option<Place>], index: u32, place: Place)

@@ -4,7 +4,9 @@ ghost use Rattle.plain_world.specs.Plain.{AreLong, AreEven, IsEvenBlock};
 
 use crate::write_world;
 use ent_io::{MemorySink, TextEnd};
-use ent_types::{FieldInfo, FieldKind, Kind, Name, Registry, Sequence, TypeId, TypeInfo};
+use ent_types::{
+    Entity, FieldInfo, FieldKind, Kind, Name, Registry, Sequence, TypeId, TypeInfo, Value,
+};
 use plain_world::{PlainBlock, PlainWorld, TypeColumns};
 use std::alloc::{AllocError, Global};
 use std::test::Fail;
@@ -15,18 +17,21 @@ const VELOCITY: TypeId = TypeId(4);
 
 const FROZEN: TypeId = TypeId(5);
 
-/// Adds a type with these fields, a tag where there are none.
+const LINK: TypeId = TypeId(6);
+
+/// Adds a type with these fields of one kind, a tag where there are none.
 fn declare(
     alloc: Global,
     registry: &mut Registry,
     name: &[u8],
     fields: &[&[u8]],
+    kind: FieldKind,
 ) -> Result<(), Fail> {
     let mut infos = Sequence::new(alloc);
     for field in fields {
         infos.push(FieldInfo {
             name: Name::of(field).ok_or("a name")?,
-            kind: FieldKind::I32,
+            kind,
         })?;
     }
     let info = TypeInfo {
@@ -45,13 +50,26 @@ fn declare(
     Err("the type isn't taken".into())
 }
 
-/// A registry with Position(x, y), Velocity(x, y) and the tag Frozen.
+/// A registry with Position(x, y), Velocity(x, y), the tag Frozen and Link(to), whose field is a reference.
 fn registry(alloc: Global) -> Result<Registry, Fail> {
     let mut registry = Registry::new(alloc)?;
-    declare(alloc, &mut registry, b"Position", &[b"x", b"y"])?;
-    declare(alloc, &mut registry, b"Velocity", &[b"x", b"y"])?;
-    declare(alloc, &mut registry, b"Frozen", &[])?;
+    let number = FieldKind::I32;
+    declare(alloc, &mut registry, b"Position", &[b"x", b"y"], number)?;
+    declare(alloc, &mut registry, b"Velocity", &[b"x", b"y"], number)?;
+    declare(alloc, &mut registry, b"Frozen", &[], number)?;
+    declare(alloc, &mut registry, b"Link", &[b"to"], FieldKind::Ref)?;
     Ok(registry)
+}
+
+/// A column of numbers.
+fn ints(alloc: Global, numbers: &[i64]) -> Result<Vec<Value>, AllocError>
+    ensures { IfOk result (λ v. length v.items ≡ length numbers.now) }
+{
+    let mut values = Vec::with_capacity(alloc, numbers.len())?;
+    for number in numbers {
+        values.push(Value::Int(*number))?;
+    }
+    Ok(values)
 }
 
 /// A type with two fields, a column of numbers for each.
@@ -62,7 +80,7 @@ fn pair(alloc: Global, ty: TypeId, xs: &[i64], ys: &[i64]) -> Result<TypeColumns
     Ok(TypeColumns {
         ty,
         mark: 1,
-        fields: vec![in alloc; xs.to_vec(alloc)?, ys.to_vec(alloc)?]?,
+        fields: vec![in alloc; ints(alloc, xs)?, ints(alloc, ys)?]?,
     })
 }
 
@@ -135,6 +153,7 @@ fn written(
 {
     let world = PlainWorld {
         blocks,
+        places: Vec::new(alloc),
         made,
         moment: 5,
     };
@@ -154,6 +173,47 @@ fn one_row(rt: HostRuntime) -> Result<(), Fail> {
     assert_eq!(rt; end, Ok(()));
     let text = b"world frames=2 entities=1\n0:1 Position(2,4) Velocity(1,2)\n";
     assert_eq!(rt; out.text(), text.as_slice());
+    Ok(())
+}
+
+/// The row of index 0 with a reference.
+fn linked(alloc: Global, to: Entity) -> Result<PlainBlock, AllocError>
+    ensures { IfOk result (λ b. IsEvenBlock b) }
+{
+    let link = TypeColumns {
+        ty: LINK,
+        mark: 1,
+        fields: vec![in alloc; vec![in alloc; Value::Ref(to)]?]?,
+    };
+    Ok(PlainBlock {
+        parts: vec![in alloc; link]?,
+        entities: vec![in alloc; 0u32]?,
+        order: 1,
+    })
+}
+
+#[test]
+fn references(rt: HostRuntime) -> Result<(), Fail> {
+    let alloc = rt.alloc();
+    let other = Entity {
+        index: 0,
+        version: 4_294_967_295,
+    };
+    for (to, text) in [
+        (
+            Entity::NULL,
+            b"world frames=2 entities=1\n0:1 Link(null)\n".as_slice(),
+        ),
+        (
+            other,
+            b"world frames=2 entities=1\n0:1 Link(0:4294967295)\n",
+        ),
+    ] {
+        let blocks = vec![in alloc; linked(alloc, to)?]?;
+        let (end, out) = written(alloc, blocks, 1, sink(alloc))?;
+        assert_eq!(rt; end, Ok(()));
+        assert_eq!(rt; out.text(), text);
+    }
     Ok(())
 }
 

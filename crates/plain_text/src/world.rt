@@ -8,10 +8,10 @@ ghost use Rattle.plain_text.specs.Lines.{row_line, world_text, world_line};
 ghost use Rattle.plain_text.specs.Places.{Tells, TellEach, all_rows, line_at};
 
 use crate::line::{push_head, push_row};
-use crate::places::{Place, places_of};
+use crate::places::places_of;
 use ent_io::{Sink, TextEnd, write_whole};
 use ent_types::Registry;
-use plain_world::{PlainBlock, PlainWorld};
+use plain_world::{Place, PlainBlock, PlainWorld};
 use std::alloc::{AllocError, Global};
 
 /// The number of rows. More rows than a `usize` counts are more than memory holds.

@@ -1,17 +1,17 @@
 -- Another column in the place of a field's, as it is put in, and as the rows see it.
-use Rattle.std.proofs.Common.{ℕ, zero, suc, ◌≡◌, ◌+◌, ◌<◌, ℤ, Bool, true, false, List, [], ◌∷◌, ◌++◌, length, map, take, drop, cond, nat_eq, slice_set, get_or, refl, sym, ap, ◌∙◌, arith}
+use Rattle.std.proofs.Common.{ℕ, zero, suc, ◌≡◌, ◌+◌, ◌<◌, Bool, true, false, List, [], ◌∷◌, ◌++◌, length, map, take, drop, cond, nat_eq, slice_set, get_or, refl, sym, ap, ◌∙◌, arith}
 use Rattle.std.proofs.Math.ListN.{set}
 use Rattle.std.proofs.lemmas.List.{map-set}
 use Rattle.ent_types.specs.declared.type_info.TypeInfo.{TypeInfo}
 use Rattle.ent_types.specs.declared.value.Value.{Value}
-use Rattle.ent_types.specs.declared.value.Value.TheVariants.{Int}
-use Rattle.expr_read.specs.declared.tree.Assign.{Assign}
+use Rattle.expr_trees.specs.declared.tree.Assign.{Assign}
 use Rattle.world_model.specs.Row.{Cell, map_cell}
-use Rattle.plain_world.specs.Run.{assigned, kept_number, kind_at}
-use Rattle.plain_world.specs.Plain.{Part, cell_at, row_at, rows_from, number_at, with_column, AreLong, IsEven, mark_in}
-use Rattle.plain_world.specs.Evaluated.{Holds, seen_at, DoesAssign}
+use Rattle.plain_world.specs.Seen.{row_met}
+use Rattle.plain_world.specs.Run.{Pass, assigned, kept, kind_at, map_from}
+use Rattle.plain_world.specs.Plain.{Part, cell_at, row_at, rows_from, value_at, with_column, AreLong, IsEven, mark_in}
+use Rattle.plain_world.specs.Evaluated.{Holds, spot_in, given_at, DoesAssign}
 
-module _ (t field : ℕ) (c : List ℤ) where
+module _ (t field : ℕ) (c : List Value) where
   -- a walk past a type that isn't the field's
   pub column_step : (ps : List Part) (i : ℕ) (p : Part) → i < length ps → p ≡ get_or ps i p → nat_eq p.type_id t ≡ false
       → take (suc i) ps ++ with_column t field c (drop (suc i) ps) ≡ take i ps ++ with_column t field c (drop i ps)
@@ -40,23 +40,23 @@ module _ (t field : ℕ) (c : List ℤ) where
       by false e = cc
   column_here (q ∷ qs) (suc i) p within is same = ap (λ r. q ∷ r) (column_here qs i p (omega arith) is same)
 
-  -- the cells of a row see the column's number
+  -- the cells of a row see the column's value
   pub cells-with_column : (k : ℕ) (ps : List Part)
-      → map (cell_at k) (with_column t field c ps) ≡ map_cell t (λ vs. slice_set vs field (Int (number_at k c))) (map (cell_at k) ps)
+      → map (cell_at k) (with_column t field c ps) ≡ map_cell t (λ vs. slice_set vs field (value_at k c)) (map (cell_at k) ps)
   cells-with_column k [] = refl
   cells-with_column k (p ∷ ps) = by (nat_eq p.type_id t) (cells-with_column k ps)
     where
       cell : List Value → Cell
       cell vs = record { type_id = p.type_id; values = vs; off = false }
 
-      by : (b : Bool) → map (cell_at k) (with_column t field c ps) ≡ map_cell t (λ vs. slice_set vs field (Int (number_at k c))) (map (cell_at k) ps)
+      by : (b : Bool) → map (cell_at k) (with_column t field c ps) ≡ map_cell t (λ vs. slice_set vs field (value_at k c)) (map (cell_at k) ps)
           → map (cell_at k) (cond b (record p { columns = slice_set p.columns field c } ∷ ps) (p ∷ with_column t field c ps))
-          ≡ cond b (record (cell_at k p) { values = slice_set (cell_at k p).values field (Int (number_at k c)) } ∷ map (cell_at k) ps)
-          (cell_at k p ∷ map_cell t (λ vs. slice_set vs field (Int (number_at k c))) (map (cell_at k) ps))
-      by true rest = ap (λ vs. record (cell_at k p) { values = vs } ∷ map (cell_at k) ps) (map-set (λ d. Int (number_at k d)) p.columns field c)
+          ≡ cond b (record (cell_at k p) { values = slice_set (cell_at k p).values field (value_at k c) } ∷ map (cell_at k) ps)
+          (cell_at k p ∷ map_cell t (λ vs. slice_set vs field (value_at k c)) (map (cell_at k) ps))
+      by true rest = ap (λ vs. record (cell_at k p) { values = vs } ∷ map (cell_at k) ps) (map-set (value_at k) p.columns field c)
       by false rest = ap (λ r. cell_at k p ∷ r) rest
 
-  long-set : (columns : List (List ℤ)) (at n : ℕ) → AreLong columns n → length c ≡ n → AreLong (slice_set columns at c) n
+  long-set : (columns : List (List Value)) (at n : ℕ) → AreLong columns n → length c ≡ n → AreLong (slice_set columns at c) n
   long-set [] at n long is = long
   long-set (d ∷ ds) zero n long is = (is, long.1)
   long-set (d ∷ ds) (suc at) n long is = (long.0, long-set ds at n long.1 is)
@@ -71,7 +71,7 @@ module _ (t field : ℕ) (c : List ℤ) where
       by false rest = (even.0, rest)
 
   -- what doesn't look at the columns sees no change
-  pub same-with_column : {X : Type 0} (see : Part → X) → ((p : Part) (columns : List (List ℤ)) → see (record p { columns = columns }) ≡ see p)
+  pub same-with_column : {X : Type 0} (see : Part → X) → ((p : Part) (columns : List (List Value)) → see (record p { columns = columns }) ≡ see p)
       → (ps : List Part) → map see (with_column t field c ps) ≡ map see ps
   same-with_column see same [] = refl
   same-with_column {X} see same (p ∷ ps) = by (nat_eq p.type_id t) (same-with_column see same ps)
@@ -81,25 +81,39 @@ module _ (t field : ℕ) (c : List ℤ) where
       by true rest = ap (λ x. x ∷ map see ps) (same p (slice_set p.columns field c))
       by false rest = ap (λ r. see p ∷ r) rest
 
-module _ (registry : List TypeInfo) (a : Assign) (old : List Part) (c : List ℤ) (n : ℕ)
-    (held : Holds c n (λ k. kept_number (kind_at registry a.ty.0 a.field) (seen_at old k) a.value)) where
-  row-assigned : (place e : ℕ) → place < n → row_at (with_column a.ty.0 a.field c old) place e ≡ assigned registry (row_at old place e) a
-  row-assigned place e within =
+module _ (registry : List TypeInfo) (a : Assign) (pass : Pass) (item : ℕ) (es : List ℕ) (old : List Part) (c : List Value)
+    (held : Holds c (length es) (given_at registry a pass item old es)) where
+  row-assigned : (place e : ℕ) → place < length es → e ≡ get_or es place 0
+      → row_at (with_column a.ty.0 a.field c old) place e ≡ assigned registry pass.others (spot_in pass item place) (row_at old place e) a
+  row-assigned place e within is =
+      let given : value_at place c ≡ kept (kind_at registry a.ty.0 a.field) (row_met (spot_in pass item place) (row_at old place e)) pass.others a.value =
+      held.values place within
+      ∙ ap (λ d. kept (kind_at registry a.ty.0 a.field) (row_met (spot_in pass item place) (row_at old place d)) pass.others a.value) (sym is) in
       ap (λ cells. record (row_at old place e) { cells = cells })
       (cells-with_column a.ty.0 a.field c place old
-      ∙ ap (λ z. map_cell a.ty.0 (λ vs. slice_set vs a.field (Int z)) (map (cell_at place) old)) (held.numbers place within))
+      ∙ ap (λ v. map_cell a.ty.0 (λ vs. slice_set vs a.field v) (map (cell_at place) old)) given)
 
-  rows-assigned : (place : ℕ) (es : List ℕ) → place + length es ≡ n
-      → rows_from (with_column a.ty.0 a.field c old) place es ≡ map (λ r. assigned registry r a) (rows_from old place es)
-  rows-assigned place [] is = refl
-  rows-assigned place (e ∷ es) is =
-      ap (λ r. r ∷ rows_from (with_column a.ty.0 a.field c old) (place + 1) es) (row-assigned place e (omega arith))
-      ∙ ap (λ rs. assigned registry (row_at old place e) a ∷ rs) (rows-assigned (place + 1) es (omega arith))
+  rows-assigned : (place : ℕ) (ds : List ℕ) → place + length ds ≡ length es → ((k : ℕ) → k < length ds → get_or ds k 0 ≡ get_or es (place + k) 0)
+      → rows_from (with_column a.ty.0 a.field c old) place ds
+      ≡ map_from (λ at r. assigned registry pass.others (spot_in pass item at) r a) place (rows_from old place ds)
+  rows-assigned place [] is each = refl
+  rows-assigned place (d ∷ ds) is each =
+      let at : place + 0 ≡ place = omega arith in
+      let here : d ≡ get_or es place 0 = each 0 (omega arith) ∙ ap (λ k. get_or es k 0) at in
+      ap (λ r. r ∷ rows_from (with_column a.ty.0 a.field c old) (place + 1) ds) (row-assigned place d (omega arith) here)
+      ∙ ap (λ rs. assigned registry pass.others (spot_in pass item place) (row_at old place d) a ∷ rs)
+      (rows-assigned (place + 1) ds (omega arith) (λ k within. each (suc k) (omega arith) ∙ ap (λ j. get_or es j 0) (next k)))
+    where
+      next : (k : ℕ) → place + suc k ≡ (place + 1) + k
+      next k = omega arith
 
-  pub does_assign : IsEven old n → DoesAssign registry a n old (with_column a.ty.0 a.field c old)
+  pub does_assign : IsEven old (length es) → DoesAssign registry a pass item es old (with_column a.ty.0 a.field c old)
   does_assign even = record {
-    rows = λ es is. rows-assigned 0 es (omega arith);
-    even = even-with_column a.ty.0 a.field c old n even held.size;
+    rows = rows-assigned 0 es (omega arith) (λ k within. ap (λ j. get_or es j 0) (from k));
+    even = even-with_column a.ty.0 a.field c old (length es) even held.size;
     types = same-with_column a.ty.0 a.field c (λ p. p.type_id) (λ p columns. refl) old;
     marks = same-with_column a.ty.0 a.field c mark_in (λ p columns. refl) old;
   }
+    where
+      from : (k : ℕ) → k ≡ 0 + k
+      from k = omega arith

@@ -7,3 +7,10 @@ pub mod NewCells
 pub mod RowPut
 pub mod Rooms
 pub mod Wides
+pub mod MayRead
+pub mod Placings
+pub mod Lookups
+pub mod Passes
+pub mod ByPlace
+pub mod Runs
+pub mod OwnNumbers

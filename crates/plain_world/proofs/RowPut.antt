@@ -1,58 +1,59 @@
 -- A row put at the end of a block's columns, and the block as the model has it.
-use Rattle.std.proofs.Common.{ℕ, zero, suc, ◌≡◌, ◌+◌, ◌<◌, ℤ, pos, false, List, [], ◌∷◌, ◌++◌, length, map, take, get_or, refl, sym, ap, ◌∙◌, arith}
+use Rattle.std.proofs.Common.{ℕ, zero, suc, ◌≡◌, ◌+◌, ◌<◌, pos, false, List, [], ◌∷◌, ◌++◌, length, map, take, get_or, refl, sym, ap, ◌∙◌, arith}
 use Rattle.std.proofs.Math.ListN.{set}
 use Rattle.std.proofs.lemmas.List.{get_or_append_left, get_or_push, length_push}
+use Rattle.ent_types.specs.declared.value.Value.{Value}
 use Rattle.ent_types.specs.declared.value.Value.TheVariants.{Int}
 use Rattle.world_model.specs.Row.{Row}
 use Rattle.world_model.specs.World.{Block, Mark}
 use Rattle.world_model.specs.Enter.{entered, marks_at}
 use Rattle.plain_world.specs.declared.cells.NewCell.{NewCell}
-use Rattle.plain_world.specs.Plain.{Part, cell_at, row_at, rows_from, types_in, mark_in, number_at, block_from, AreLong, IsEven}
-use Rattle.plain_world.specs.NewRows.{cell_in, cells_in, new_row, with_numbers, part_with, parts_with, AreFitting}
+use Rattle.plain_world.specs.Plain.{Part, cell_at, row_at, rows_from, types_in, mark_in, value_at, block_from, AreLong, IsEven}
+use Rattle.plain_world.specs.NewRows.{cell_in, cells_in, new_row, with_values, part_with, parts_with, AreFitting}
 
 -- ---- column after column
 
-pub with_numbers_none : (cs : List (List ℤ)) → with_numbers cs [] ≡ cs
-with_numbers_none [] = refl
-with_numbers_none (c ∷ cs) = refl
+pub with_values_none : (cs : List (List Value)) → with_values cs [] ≡ cs
+with_values_none [] = refl
+with_values_none (c ∷ cs) = refl
 
--- one number more
-pub with_numbers_more : (cs : List (List ℤ)) (zs : List ℤ) (i : ℕ) (c : List ℤ) (z : ℤ) → i < length cs → i < length zs
-    → c ≡ get_or (with_numbers cs (take i zs)) i c → z ≡ get_or zs i z
-    → set (with_numbers cs (take i zs)) i (c ++ z ∷ []) ≡ with_numbers cs (take (suc i) zs)
-with_numbers_more [] zs i c z short within is here = absurd (omega arith)
-with_numbers_more (d ∷ ds) [] i c z short within is here = absurd (omega arith)
-with_numbers_more (d ∷ ds) (y ∷ ys) zero c z short within is here =
-    ap (λ b. (b ++ z ∷ []) ∷ ds) is ∙ (ap (λ x. (d ++ x ∷ []) ∷ ds) here ∙ ap (λ r. (d ++ y ∷ []) ∷ r) (sym (with_numbers_none ds)))
-with_numbers_more (d ∷ ds) (y ∷ ys) (suc i) c z short within is here =
-    ap (λ r. (d ++ y ∷ []) ∷ r) (with_numbers_more ds ys i c z (omega arith) (omega arith) is here)
+-- one value more
+pub with_values_more : (cs : List (List Value)) (zs : List Value) (i : ℕ) (c : List Value) (z : Value) → i < length cs → i < length zs
+    → c ≡ get_or (with_values cs (take i zs)) i c → z ≡ get_or zs i z
+    → set (with_values cs (take i zs)) i (c ++ z ∷ []) ≡ with_values cs (take (suc i) zs)
+with_values_more [] zs i c z short within is here = absurd (omega arith)
+with_values_more (d ∷ ds) [] i c z short within is here = absurd (omega arith)
+with_values_more (d ∷ ds) (y ∷ ys) zero c z short within is here =
+    ap (λ b. (b ++ z ∷ []) ∷ ds) is ∙ (ap (λ x. (d ++ x ∷ []) ∷ ds) here ∙ ap (λ r. (d ++ y ∷ []) ∷ r) (sym (with_values_none ds)))
+with_values_more (d ∷ ds) (y ∷ ys) (suc i) c z short within is here =
+    ap (λ r. (d ++ y ∷ []) ∷ r) (with_values_more ds ys i c z (omega arith) (omega arith) is here)
 
-length-with_numbers : (cs : List (List ℤ)) (zs : List ℤ) → length (with_numbers cs zs) ≡ length cs
-length-with_numbers [] zs = refl
-length-with_numbers (c ∷ cs) [] = refl
-length-with_numbers (c ∷ cs) (z ∷ zs) = ap suc (length-with_numbers cs zs)
+length-with_values : (cs : List (List Value)) (zs : List Value) → length (with_values cs zs) ≡ length cs
+length-with_values [] zs = refl
+length-with_values (c ∷ cs) [] = refl
+length-with_values (c ∷ cs) (z ∷ zs) = ap suc (length-with_values cs zs)
 
 -- the rows that are there stay
-numbers_stay : (cs : List (List ℤ)) (zs : List ℤ) (k n : ℕ) → k < n → AreLong cs n
-    → map (λ c. Int (number_at k c)) (with_numbers cs zs) ≡ map (λ c. Int (number_at k c)) cs
-numbers_stay [] zs k n within long = refl
-numbers_stay (c ∷ cs) [] k n within long = refl
-numbers_stay (c ∷ cs) (z ∷ zs) k n within long =
+values_stay : (cs : List (List Value)) (zs : List Value) (k n : ℕ) → k < n → AreLong cs n
+    → map (value_at k) (with_values cs zs) ≡ map (value_at k) cs
+values_stay [] zs k n within long = refl
+values_stay (c ∷ cs) [] k n within long = refl
+values_stay (c ∷ cs) (z ∷ zs) k n within long =
     let here : k < length c = omega (arith, long.0) in
-    ap (λ x. Int x ∷ map (λ d. Int (number_at k d)) (with_numbers cs zs)) (get_or_append_left c (z ∷ []) (pos 0) k here)
-    ∙ ap (λ r. Int (number_at k c) ∷ r) (numbers_stay cs zs k n within long.1)
+    ap (λ x. x ∷ map (value_at k) (with_values cs zs)) (get_or_append_left c (z ∷ []) (Int (pos 0)) k here)
+    ∙ ap (λ r. value_at k c ∷ r) (values_stay cs zs k n within long.1)
 
--- the last row has the new numbers
-numbers_put : (cs : List (List ℤ)) (zs : List ℤ) (n : ℕ) → AreLong cs n → length cs ≡ length zs
-    → map (λ c. Int (number_at n c)) (with_numbers cs zs) ≡ map (λ z. Int z) zs
-numbers_put [] [] n long same = refl
-numbers_put [] (z ∷ zs) n long same = absurd (omega arith)
-numbers_put (c ∷ cs) [] n long same = absurd (omega arith)
-numbers_put (c ∷ cs) (z ∷ zs) n long same =
-    ap (λ x. Int x ∷ map (λ d. Int (number_at n d)) (with_numbers cs zs)) (get_or_push c z (pos 0) n long.0)
-    ∙ ap (λ r. Int z ∷ r) (numbers_put cs zs n long.1 (omega arith))
+-- the last row has the new values
+values_put : (cs : List (List Value)) (zs : List Value) (n : ℕ) → AreLong cs n → length cs ≡ length zs
+    → map (value_at n) (with_values cs zs) ≡ zs
+values_put [] [] n long same = refl
+values_put [] (z ∷ zs) n long same = absurd (omega arith)
+values_put (c ∷ cs) [] n long same = absurd (omega arith)
+values_put (c ∷ cs) (z ∷ zs) n long same =
+    ap (λ x. x ∷ map (value_at n) (with_values cs zs)) (get_or_push c z (Int (pos 0)) n long.0)
+    ∙ ap (λ r. z ∷ r) (values_put cs zs n long.1 (omega arith))
 
-long_put : (cs : List (List ℤ)) (zs : List ℤ) (n : ℕ) → AreLong cs n → length cs ≡ length zs → AreLong (with_numbers cs zs) (n + 1)
+long_put : (cs : List (List Value)) (zs : List Value) (n : ℕ) → AreLong cs n → length cs ≡ length zs → AreLong (with_values cs zs) (n + 1)
 long_put [] zs n long same = tt
 long_put (c ∷ cs) [] n long same = absurd (omega arith)
 long_put (c ∷ cs) (z ∷ zs) n long same = (length_push c z ∙ ap (λ m. m + 1) long.0, long_put cs zs n long.1 (omega arith))
@@ -95,7 +96,7 @@ module _ (now : ℕ) where
   fitting_stays [] [] fits = fits
   fitting_stays [] (c ∷ cs) fits = fits
   fitting_stays (p ∷ ps) [] fits = fits
-  fitting_stays (p ∷ ps) (c ∷ cs) fits = (fits.0, length-with_numbers p.columns c.values.items ∙ fits.1, fitting_stays ps cs fits.2)
+  fitting_stays (p ∷ ps) (c ∷ cs) fits = (fits.0, length-with_values p.columns c.values.items ∙ fits.1, fitting_stays ps cs fits.2)
 
   pub even_put : (ps : List Part) (cs : List NewCell) (n : ℕ) → AreFitting ps cs → IsEven ps n → IsEven (parts_with now ps cs) (n + 1)
   even_put [] cs n fits even = tt
@@ -116,7 +117,7 @@ module _ (now : ℕ) where
   cells_stay [] cs k n within even = refl
   cells_stay (p ∷ ps) [] k n within even = refl
   cells_stay (p ∷ ps) (c ∷ cs) k n within even =
-      ap (λ vs. record (cell_at k p) { values = vs } ∷ map (cell_at k) (parts_with now ps cs)) (numbers_stay p.columns c.values.items k n within even.0)
+      ap (λ vs. record (cell_at k p) { values = vs } ∷ map (cell_at k) (parts_with now ps cs)) (values_stay p.columns c.values.items k n within even.0)
       ∙ ap (λ r. cell_at k p ∷ r) (cells_stay ps cs k n within even.1)
 
   cells_put : (ps : List Part) (cs : List NewCell) (n : ℕ) → AreFitting ps cs → IsEven ps n → map (cell_at n) (parts_with now ps cs) ≡ cells_in cs
@@ -124,8 +125,8 @@ module _ (now : ℕ) where
   cells_put [] (c ∷ cs) n fits even = absurd fits
   cells_put (p ∷ ps) [] n fits even = absurd fits
   cells_put (p ∷ ps) (c ∷ cs) n fits even =
-      ap (λ vs. record { type_id = p.type_id; values = vs; off = false } ∷ map (cell_at n) (parts_with now ps cs)) (numbers_put p.columns c.values.items n even.0 fits.1)
-      ∙ (ap (λ t. record { type_id = t; values = map (λ z. Int z) c.values.items; off = false } ∷ map (cell_at n) (parts_with now ps cs)) fits.0
+      ap (λ vs. record { type_id = p.type_id; values = vs; off = false } ∷ map (cell_at n) (parts_with now ps cs)) (values_put p.columns c.values.items n even.0 fits.1)
+      ∙ (ap (λ t. record { type_id = t; values = c.values.items; off = false } ∷ map (cell_at n) (parts_with now ps cs)) fits.0
       ∙ ap (λ r. cell_in c ∷ r) (cells_put ps cs n fits.2 even.1))
 
   module _ (ps : List Part) (cs : List NewCell) (n : ℕ) (fits : AreFitting ps cs) (even : IsEven ps n) where

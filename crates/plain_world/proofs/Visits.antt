@@ -2,49 +2,56 @@
 use Rattle.std.proofs.Common.{ℕ, ◌≡◌, ◌+◌, ◌<◌, Bool, true, false, List, [], ◌∷◌, ◌++◌, length, map, take, cond, get_or, refl, sym, ap, ◌∙◌}
 use Rattle.std.proofs.lemmas.List.{take_more}
 use Rattle.std.proofs.lemmas.List.Sums.{fold-append}
-use Rattle.ent_types.specs.TypeSets.{has_type, is_subset_of}
+use Rattle.ent_types.specs.TypeSets.{has_type}
 use Rattle.ent_types.specs.declared.type_info.TypeInfo.{TypeInfo}
-use Rattle.expr_read.specs.declared.tree.Assign.{Assign}
-use Rattle.scenario_read.specs.declared.record.SystemEntry.{SystemEntry}
+use Rattle.expr_trees.specs.declared.tree.Assign.{Assign}
+use Rattle.scenario_record.specs.declared.record.SystemEntry.{SystemEntry}
 use Rattle.world_model.specs.Row.{Row}
 use Rattle.world_model.specs.World.{Block, Mark}
-use Rattle.plain_world.specs.Run.{assigned, job, visited, marked, written_by}
+use Rattle.plain_world.specs.Run.{Pass, assigned, job, jobs_done, map_from, visited, marked}
 use Rattle.plain_world.specs.Plain.{Part, cell_at, row_at, rows_from, types_in, mark_in, block_from, IsEven}
-use Rattle.plain_world.specs.Evaluated.{DoesAssign, DoesJob, types_set, marked_part}
+use Rattle.plain_world.specs.Evaluated.{spot_in, DoesAssign, DoesJob, types_set, marked_part}
 
 -- ---- a job, assignment after assignment
 
-job-more : (registry : List TypeInfo) (set : List Assign) (a : Assign) (rows : List Row)
-    → map (λ r. assigned registry r a) (map (job registry set) rows) ≡ map (job registry (set ++ a ∷ [])) rows
-job-more registry set a [] = refl
-job-more registry set a (r ∷ rs) =
-    ap (λ x. x ∷ map (λ r. assigned registry r a) (map (job registry set) rs)) (sym (fold-append (assigned registry) r set (a ∷ [])))
-    ∙ ap (λ xs. job registry (set ++ a ∷ []) r ∷ xs) (job-more registry set a rs)
+module _ (registry : List TypeInfo) (pass : Pass) (item : ℕ) where
+  abbrev does : List Assign → ℕ → Row → Row
+  does set place r = job registry set pass.others (spot_in pass item place) r
 
-map-nothing : (registry : List TypeInfo) (rows : List Row) → rows ≡ map (job registry []) rows
-map-nothing registry [] = refl
-map-nothing registry (r ∷ rs) = ap (λ xs. r ∷ xs) (map-nothing registry rs)
+  job-more : (set : List Assign) (a : Assign) (n : ℕ) (rows : List Row)
+      → map_from (λ place r. assigned registry pass.others (spot_in pass item place) r a) n (map_from (does set) n rows) ≡ map_from (does (set ++ a ∷ [])) n rows
+  job-more set a n [] = refl
+  job-more set a n (r ∷ rs) =
+      ap (λ x. x ∷ map_from (λ place r. assigned registry pass.others (spot_in pass item place) r a) (n + 1) (map_from (does set) (n + 1) rs))
+      (sym (fold-append (assigned registry pass.others (spot_in pass item n)) r set (a ∷ [])))
+      ∙ ap (λ xs. does (set ++ a ∷ []) n r ∷ xs) (job-more set a (n + 1) rs)
 
-pub no_job : (registry : List TypeInfo) (n : ℕ) (old : List Part) → IsEven old n → DoesJob registry [] n old old
-no_job registry n old even = record {
-  rows = λ es is. map-nothing registry (rows_from old 0 es);
-  even = even;
-  types = refl;
-  marks = refl;
-}
+  map-nothing : (n : ℕ) (rows : List Row) → rows ≡ map_from (does []) n rows
+  map-nothing n [] = refl
+  map-nothing n (r ∷ rs) = ap (λ xs. r ∷ xs) (map-nothing (n + 1) rs)
 
-pub job_more : (registry : List TypeInfo) (set : List Assign) (i : ℕ) (a : Assign) (n : ℕ) (old mid new : List Part)
-    → i < length set → a ≡ get_or set i a
-    → DoesJob registry (take i set) n old mid → DoesAssign registry a n mid new → DoesJob registry (take (i + 1) set) n old new
-job_more registry set i a n old mid new within is done one =
-    let more : take (i + 1) set ≡ take i set ++ a ∷ [] = take_more set i a within ∙ ap (λ x. take i set ++ x ∷ []) (sym is) in
-    rw more
-    (record {
-      rows = λ es long. one.rows es long ∙ (ap (map (λ r. assigned registry r a)) (done.rows es long) ∙ job-more registry (take i set) a (rows_from old 0 es));
-      even = one.even;
-      types = one.types ∙ done.types;
-      marks = one.marks ∙ done.marks;
-    })
+  pub no_job : (es : List ℕ) (old : List Part) → IsEven old (length es) → DoesJob registry [] pass item es old old
+  no_job es old even = record {
+    rows = map-nothing 0 (rows_from old 0 es);
+    even = even;
+    types = refl;
+    marks = refl;
+  }
+
+  pub job_more : (set : List Assign) (i : ℕ) (a : Assign) (es : List ℕ) (old mid new : List Part)
+      → i < length set → a ≡ get_or set i a
+      → DoesJob registry (take i set) pass item es old mid → DoesAssign registry a pass item es mid new → DoesJob registry (take (i + 1) set) pass item es old new
+  job_more set i a es old mid new within is done one =
+      let more : take (i + 1) set ≡ take i set ++ a ∷ [] = take_more set i a within ∙ ap (λ x. take i set ++ x ∷ []) (sym is) in
+      rw more
+      (record {
+        rows =
+            one.rows
+            ∙ (ap (map_from (λ place r. assigned registry pass.others (spot_in pass item place) r a) 0) done.rows ∙ job-more (take i set) a 0 (rows_from old 0 es));
+        even = one.even;
+        types = one.types ∙ done.types;
+        marks = one.marks ∙ done.marks;
+      })
 
 -- ---- marks
 
@@ -93,37 +100,20 @@ module _ (now : ℕ) (types : List ℕ) where
 
 -- ---- a block
 
--- a block that lacks one of the system's types stays
-pub not_visited : (registry : List TypeInfo) (now : ℕ) (system : SystemEntry) (b : Block) → false ≡ is_subset_of system.all b.home.types
-    → b ≡ visited registry now system b
-not_visited registry now system b lacks = by (is_subset_of system.all b.home.types) lacks
-  where
-    by : (t : Bool) → false ≡ t
-        → b ≡ cond t (record b { marks = marked now (written_by system) b.marks; rows = map (job registry system.set) b.rows }) b
-    by true e = cc
-    by false e = refl
-
-pub is_visited : (registry : List TypeInfo) (now : ℕ) (system : SystemEntry) (old mid : List Part) (es : List ℕ) (order : ℕ)
-    → true ≡ is_subset_of system.all (types_in old) → DoesJob registry system.set (length es) old mid
-    → block_from (map (marked_part now (types_set system.set)) mid) es order ≡ visited registry now system (block_from old es order)
-is_visited registry now system old mid es order has done =
+pub visited_is : (registry : List TypeInfo) (system : SystemEntry) (pass : Pass) (item : ℕ) (old mid : List Part) (es : List ℕ) (order : ℕ)
+    → DoesJob registry system.set pass item es old mid
+    → block_from (map (marked_part pass.now (types_set system.set)) mid) es order ≡ visited registry system pass item (block_from old es order)
+visited_is registry system pass item old mid es order done =
     let types : List ℕ = types_set system.set in
+    let now : ℕ = pass.now in
     let new : List Part = map (marked_part now types) mid in
     let same_types : types_in new ≡ types_in old = types-marked now types mid ∙ done.types in
     let same_marks : map mark_in new ≡ marked now types (map mark_in old) = marks-marked now types mid ∙ ap (marked now types) done.marks in
-    let same_rows : rows_from new 0 es ≡ map (job registry system.set) (rows_from old 0 es) = rows-marked now types mid 0 es ∙ done.rows es refl in
-    put (types_in new) (types_in old) (map mark_in new) (marked now types (map mark_in old)) (rows_from new 0 es) (map (job registry system.set) (rows_from old 0 es))
+    let same_rows : rows_from new 0 es ≡ jobs_done registry system.set pass item (rows_from old 0 es) = rows-marked now types mid 0 es ∙ done.rows in
+    put (types_in new) (types_in old) (map mark_in new) (marked now types (map mark_in old)) (rows_from new 0 es) (jobs_done registry system.set pass item (rows_from old 0 es))
     same_types same_marks same_rows
-    ∙ by (is_subset_of system.all (types_in old)) has
   where
     put : (ts us : List ℕ) (ms ns : List Mark) (rs ss : List Row) → ts ≡ us → ms ≡ ns → rs ≡ ss
         → ◌≡◌ {A = Block} (record { home = record { types = ts; shared = [] }; marks = ms; rows = rs; order = order })
         (record { home = record { types = us; shared = [] }; marks = ns; rows = ss; order = order })
     put ts us ms ns rs ss p q r = λ i. record { home = record { types = p i; shared = [] }; marks = q i; rows = r i; order = order }
-
-    by : (t : Bool) → true ≡ t
-        → ◌≡◌ {A = Block} (record (block_from old es order) { marks = marked now (types_set system.set) (map mark_in old); rows = map (job registry system.set) (rows_from old 0 es) })
-        (cond t (record (block_from old es order) { marks = marked now (written_by system) (map mark_in old); rows = map (job registry system.set) (rows_from old 0 es) })
-        (block_from old es order))
-    by true e = refl
-    by false e = cc

@@ -6,7 +6,6 @@ use Rattle.std.proofs.lemmas.Bool.{and_parts, eqb-true}
 use Rattle.std.proofs.lemmas.List.{length-map}
 use Rattle.ent_types.specs.declared.type_info.FieldInfo.{FieldInfo}
 use Rattle.ent_types.specs.declared.type_info.TypeInfo.{TypeInfo}
-use Rattle.ent_types.specs.declared.value.Value.TheVariants.{Int}
 use Rattle.ent_types.specs.Registries.{type_at}
 use Rattle.world_model.specs.Row.{Row}
 use Rattle.world_model.specs.Enter.{entered, new_block}
@@ -44,7 +43,7 @@ module _ (registry : List TypeInfo) where
       let parts = and_parts (nat_eq c.ty.0 p.type_id) (pointwise nat_eq (types_of (cells_in cs)) (types_in ps)) same in
       let one : c.ty.0 ≡ p.type_id = eqb-true c.ty.0 p.type_id parts.0 in (
         sym one,
-        wide.0 ∙ (ap (λ t. length (type_at registry t).fields) (sym one) ∙ (sym full.0 ∙ length-map c.values.items (λ z. Int z))),
+        wide.0 ∙ (ap (λ t. length (type_at registry t).fields) (sym one) ∙ sym full.0),
         fit_wide ps cs parts.1 wide.1 full.1,
       )
 
@@ -53,7 +52,7 @@ module _ (registry : List TypeInfo) where
   wide_fit [] cs fits full = tt
   wide_fit (p ∷ ps) [] fits full = absurd fits
   wide_fit (p ∷ ps) (c ∷ cs) fits full = (
-    fits.1 ∙ (sym (length-map c.values.items (λ z. Int z)) ∙ (full.0 ∙ ap (λ t. length (type_at registry t).fields) (sym fits.0))),
+    fits.1 ∙ (full.0 ∙ ap (λ t. length (type_at registry t).fields) (sym fits.0)),
     wide_fit ps cs fits.2 full.1,
   )
 
@@ -75,7 +74,7 @@ module _ (registry : List TypeInfo) where
   fit_empty [] full = tt
   fit_empty (c ∷ cs) full = (
     refl,
-    length-map (type_at registry c.ty.0).fields (λ f. []) ∙ (sym full.0 ∙ length-map c.values.items (λ z. Int z)),
+    length-map (type_at registry c.ty.0).fields (λ f. []) ∙ sym full.0,
     fit_empty cs full.1,
   )
 

@@ -1,5 +1,7 @@
-pub mod Chain
+pub mod Seen
 pub mod Run
 pub mod Plain
 pub mod Evaluated
+pub mod Placed
 pub mod NewRows
+pub mod Passing

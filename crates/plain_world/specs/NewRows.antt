@@ -1,22 +1,24 @@
 -- What a new row is before it enters a block, and what the parts of a block become as it enters.
-use Rattle.std.specs.Prelude.{ℕ, zero, suc, ℤ, pos, false, ◌≡◌, Bool, ◌&&◌, if◌then◌else◌, nat_lt, List, [], ◌∷◌, ◌++◌, length, map, Option, None, Some}
+use Rattle.std.specs.Prelude.{ℕ, zero, suc, false, ◌≡◌, Bool, ◌&&◌, if◌then◌else◌, nat_lt, List, [], ◌∷◌, ◌++◌, length, map, Option, None, Some}
 use Rattle.ent_types.specs.declared.kinds.FieldKind.{FieldKind}
 use Rattle.ent_types.specs.declared.type_info.TypeInfo.{TypeInfo}
-use Rattle.ent_types.specs.declared.value.Value.TheVariants.{Int}
+use Rattle.ent_types.specs.declared.value.Value.{Value}
+use Rattle.ent_types.specs.Fitting.{default_value}
 use Rattle.ent_types.specs.Registries.{type_at}
-use Rattle.expr_read.specs.declared.tree.ValueExpr.{ValueExpr}
+use Rattle.expr_trees.specs.declared.tree.ValueExpr.{ValueExpr}
 use Rattle.world_model.specs.Row.{Row, Cell}
 use Rattle.world_model.specs.World.{Block, Home}
 use Rattle.world_model.specs.Enter.{same_home}
 use Rattle.plain_world.specs.declared.block.PlainBlock.{PlainBlock}
 use Rattle.plain_world.specs.declared.cells.NewCell.{NewCell}
 use Rattle.plain_world.specs.Plain.{Part, parts_of}
-use Rattle.plain_world.specs.Run.{kept_number, nothing_seen}
+use Rattle.plain_world.specs.Seen.{row_of_spawn, no_others}
+use Rattle.plain_world.specs.Run.{kept}
 
 -- ---- a new row
 
 abbrev pub cell_in : NewCell → Cell
-cell_in c = record { type_id = c.ty.0; values = map (λ z. Int z) c.values.items; off = false }
+cell_in c = record { type_id = c.ty.0; values = c.values.items; off = false }
 
 abbrev pub cells_in : List NewCell → List Cell
 cells_in cells = map cell_in cells
@@ -28,10 +30,10 @@ types_of cells = map (λ c. c.type_id) cells
 abbrev pub new_row : ℕ → List Cell → Row
 new_row e cells = record { entity = record { index = e; version = 1 }; cells = cells; dying = false }
 
--- the number of a field to which a value may be given
-abbrev pub given_number : FieldKind → Option ValueExpr → ℤ
-given_number kind None = pos 0
-given_number kind (Some v) = kept_number kind nothing_seen v
+-- what a field to which a value may be given holds in row n of a spawn
+abbrev pub given_value : ℕ → FieldKind → Option ValueExpr → Value
+given_value n kind None = default_value kind
+given_value n kind (Some v) = kept kind (row_of_spawn n) no_others v
 
 -- the place of the first cell of a later type; past the end where there is none
 abbrev pub cell_place : ℕ → List Cell → ℕ
@@ -45,15 +47,15 @@ AreFull registry (c ∷ cs) = (length c.values ≡ length (type_at registry c.ty
 
 -- ---- a row at the end of a block's columns
 
--- the columns, each with one more number
-abbrev pub with_numbers : List (List ℤ) → List ℤ → List (List ℤ)
-with_numbers [] zs = []
-with_numbers (c ∷ cs) [] = c ∷ cs
-with_numbers (c ∷ cs) (z ∷ zs) = (c ++ z ∷ []) ∷ with_numbers cs zs
+-- the columns, each with one more value
+abbrev pub with_values : List (List Value) → List Value → List (List Value)
+with_values [] zs = []
+with_values (c ∷ cs) [] = c ∷ cs
+with_values (c ∷ cs) (z ∷ zs) = (c ++ z ∷ []) ∷ with_values cs zs
 
 -- the part with a cell at its end, marked with a moment
 abbrev pub part_with : ℕ → Part → NewCell → Part
-part_with now p c = record { type_id = p.type_id; mark = now; columns = with_numbers p.columns c.values.items }
+part_with now p c = record { type_id = p.type_id; mark = now; columns = with_values p.columns c.values.items }
 
 abbrev pub parts_with : ℕ → List Part → List NewCell → List Part
 parts_with now [] cs = []

@@ -1,5 +1,6 @@
 -- What the rows that are kept in columns stand for: a block's rows as records, and the world.
-use Rattle.std.specs.Prelude.{ℕ, ℤ, pos, ◌+◌, ◌≡◌, false, if◌then◌else◌, nat_eq, List, [], ◌∷◌, length, map, slice_index_or, slice_get, slice_set, Option, None}
+use Rattle.std.specs.Prelude.{ℕ, pos, ◌+◌, ◌≡◌, false, if◌then◌else◌, nat_eq, List, [], ◌∷◌, length, map, slice_index_or, slice_get, slice_set, Option, None}
+use Rattle.ent_types.specs.declared.value.Value.{Value}
 use Rattle.ent_types.specs.declared.value.Value.TheVariants.{Int}
 use Rattle.world_model.specs.Row.{Row, Cell}
 use Rattle.world_model.specs.World.{World, Block, Mark}
@@ -7,11 +8,11 @@ use Rattle.plain_world.specs.declared.block.TypeColumns.{TypeColumns}
 use Rattle.plain_world.specs.declared.block.PlainBlock.{PlainBlock}
 use Rattle.plain_world.specs.declared.world.PlainWorld.{PlainWorld}
 
--- what a block has of one type: the mark, and a column of numbers for each field
+-- what a block has of one type: the mark, and a column of values for each field
 pub record Part : Type 0 where
   pub type_id : ℕ
   pub mark : ℕ
-  pub columns : List (List ℤ)
+  pub columns : List (List Value)
 
 abbrev pub part_of : TypeColumns → Part
 part_of p = record { type_id = p.ty.0; mark = p.mark; columns = map (λ c. c.items) p.fields.items }
@@ -19,13 +20,13 @@ part_of p = record { type_id = p.ty.0; mark = p.mark; columns = map (λ c. c.ite
 abbrev pub parts_of : List TypeColumns → List Part
 parts_of parts = map part_of parts
 
--- the number of a row in a column; 0 past the end
-abbrev pub number_at : ℕ → List ℤ → ℤ
-number_at place column = slice_index_or column place (pos 0)
+-- the value of a row in a column; 0 past the end
+abbrev pub value_at : ℕ → List Value → Value
+value_at place column = slice_index_or column place (Int (pos 0))
 
 -- what a row has of one type
 abbrev pub cell_at : ℕ → Part → Cell
-cell_at place p = record { type_id = p.type_id; values = map (λ c. Int (number_at place c)) p.columns; off = false }
+cell_at place p = record { type_id = p.type_id; values = map (value_at place) p.columns; off = false }
 
 -- the row at a place
 abbrev pub row_at : List Part → ℕ → ℕ → Row
@@ -55,8 +56,8 @@ block_from parts entities order = record {
 abbrev pub block_of : PlainBlock → Block
 block_of b = block_from (parts_of b.parts.items) b.entities.items b.order
 
--- each column has a number for each row
-abbrev pub AreLong : List (List ℤ) → ℕ → Type 0
+-- each column has a value for each row
+abbrev pub AreLong : List (List Value) → ℕ → Type 0
 AreLong [] n = Unit {0}
 AreLong (c ∷ cs) n = (length c ≡ n) × AreLong cs n
 
@@ -65,12 +66,12 @@ IsEven [] n = Unit {0}
 IsEven (p ∷ ps) n = AreLong p.columns n × IsEven ps n
 
 -- the column of a field
-abbrev pub column_at : ℕ → ℕ → List Part → Option (List ℤ)
+abbrev pub column_at : ℕ → ℕ → List Part → Option (List Value)
 column_at t field [] = None
 column_at t field (p ∷ ps) = if nat_eq p.type_id t then slice_get p.columns field else column_at t field ps
 
 -- the parts with another column for a field; a field that isn't there changes nothing
-abbrev pub with_column : ℕ → ℕ → List ℤ → List Part → List Part
+abbrev pub with_column : ℕ → ℕ → List Value → List Part → List Part
 with_column t field column [] = []
 with_column t field column (p ∷ ps) =
     if nat_eq p.type_id t then record p { columns = slice_set p.columns field column } ∷ ps

@@ -1,14 +1,19 @@
 //! One assignment for all rows of a block.
-ghost use Rattle.std.specs.Prelude.{◌≡◌, slice_set, length, OnOk, IfOk};
-ghost use Rattle.ent_types.specs.Fitting.{fit_number};
-ghost use Rattle.plain_world.specs.Run.{kind_at, kept_number};
-ghost use Rattle.plain_world.specs.Plain.{part_of, parts_of, with_column, number_at, IsEven};
-ghost use Rattle.plain_world.specs.Evaluated.{Holds, seen_at, DoesAssign};
+ghost use Rattle.std.specs.Prelude.{◌≡◌, length, IfOk};
+ghost use Rattle.ent_types.specs.declared.value.Value.TheVariants as value;
+ghost use Rattle.ent_types.specs.Fitting.{fit};
+ghost use Rattle.plain_world.specs.Run.{kind_at, kept};
+ghost use Rattle.plain_world.specs.Plain.{parts_of};
+ghost use Rattle.plain_world.specs.Evaluated.{Holds, with_written, met_at, given_at, number_at};
+ghost use Rattle.plain_world.specs.Passing.{pass_of};
 
-use crate::block::TypeColumns;
-use crate::evaluation::{constant, evaluate};
-use ent_types::{FieldKind, Memory, Registry, TypeId, fit};
-use expr_read::{Assign, ValueExpr};
+use crate::block::NewColumn;
+use crate::item::{Item, Run};
+use crate::keeping::{fit_int, keep};
+use crate::numbers::numbers_of;
+use crate::own_row::MetRow;
+use ent_types::{FieldKind, Memory, Registry, TypeId, Value};
+use expr_trees::{Assign, ValueExpr};
 use std::alloc::Global;
 
 /// The kind of a type's field; i64 where there is none.
@@ -24,70 +29,90 @@ fn kind_of(registry: &Registry, ty: TypeId, field: u8) -> FieldKind
     }
 }
 
-/// What fields of this kind keep of the numbers.
-fn fit_all(kind: FieldKind, mut numbers: Vec<i64>) -> Vec<i64>
-    ensures { Holds result.items (length numbers.items) (λ k. fit_number kind (number_at k numbers.items)) }
+/// What a field of the kind keeps of each number.
+fn fit_all(alloc: Global, kind: FieldKind, numbers: &[i64]) -> Result<Vec<Value>, Memory>
+    ensures { IfOk result (λ v. Holds v.items (length numbers.now) (λ k. fit kind (value.Int (number_at k numbers.now)))) }
 {
+    let mut values = vec![in alloc; Value::Int(0); numbers.len()]?;
     for i in 0..numbers.len() {
-        numbers[i] = fit(kind, numbers[i]);
+        values[i] = fit_int(kind, numbers[i]);
     }
-    numbers
+    Ok(values)
 }
 
-/// What the assignment gives the field of each row.
-fn assigned_column(
+/// What a field of the kind keeps of the value on each row, one row after another.
+fn each_kept(
     alloc: Global,
-    registry: &Registry,
-    assign: &Assign,
-    parts: &[TypeColumns],
-    rows: usize,
-) -> Result<Vec<i64>, Memory>
-    requires { IsEven (parts_of parts.now) rows }
-    ensures { IfOk result (λ v. Holds v.items rows (λ k. kept_number (kind_at registry.now assign.now.ty.0 assign.now.field) (seen_at (parts_of parts.now) k) assign.now.value)) }
+    kind: FieldKind,
+    given: &ValueExpr,
+    run: &Run<'_>,
+    item: &Item<'_>,
+    written: &[NewColumn],
+) -> Result<Vec<Value>, Memory>
+    requires { item.now.rows ≡ length item.now.block.now.entities.items }
+    ensures { IfOk result (λ v. Holds v.items item.now.rows (λ k. kept kind
+        (met_at (pass_of run.now) item.now.number (with_written written.now (parts_of item.now.block.now.parts.items)) item.now.block.now.entities.items k)
+        (pass_of run.now).others given.now)) }
 {
-    match &assign.value {
+    let mut values = Vec::with_capacity(alloc, item.rows as usize)?;
+    for place in 0..item.rows {
+        let row = MetRow {
+            parts: item.block.parts.as_slice(),
+            written,
+            place,
+            index: item.block.entities[place as usize],
+            item: item.number,
+            frame: run.frame,
+        };
+        values.push(keep(kind, given, &row, &run.others))?;
+    }
+    Ok(values)
+}
+
+/// What a field of the kind keeps of the value on each row, after some columns were written.
+fn all_kept(
+    alloc: Global,
+    kind: FieldKind,
+    given: &ValueExpr,
+    run: &Run<'_>,
+    item: &Item<'_>,
+    written: &[NewColumn],
+) -> Result<Vec<Value>, Memory>
+    requires { item.now.rows ≡ length item.now.block.now.entities.items }
+    ensures { IfOk result (λ v. Holds v.items item.now.rows (λ k. kept kind
+        (met_at (pass_of run.now) item.now.number (with_written written.now (parts_of item.now.block.now.parts.items)) item.now.block.now.entities.items k)
+        (pass_of run.now).others given.now)) }
+{
+    match given {
         ValueExpr::Int(expr) => {
-            let numbers = evaluate(alloc, parts, rows, expr)?;
-            Ok(fit_all(kind_of(registry, assign.ty, assign.field), numbers))
+            let numbers = numbers_of(alloc, expr, run, item, written)?;
+            fit_all(alloc, kind, &numbers)
         }
-        ValueExpr::Ref(_) => constant(alloc, 0, rows),
+        ValueExpr::Ref(_) => each_kept(alloc, kind, given, run, item, written),
     }
 }
 
-/// Puts another column in the place of a type's, where the type has such a field.
-fn set_field(part: &mut TypeColumns, field: u8, column: Vec<i64>)
-    ensures { part_of part.new ≡ record (part_of part.old) { columns = slice_set (part_of part.old).columns field column.items } }
-{
-    if let Some(slot) = part.fields.get_mut(usize::from(field)) {
-        *slot = column;
-    }
-}
-
-/// Puts another column in the place of a field's, where there is such a field.
-fn set_column(parts: &mut Vec<TypeColumns>, ty: TypeId, field: u8, column: Vec<i64>)
-    ensures { parts_of parts.new.items ≡ with_column ty.0 field column.items (parts_of parts.old.items) }
-{
-    for i in 0..parts.len() {
-        let part = &mut parts[i];
-        if part.ty == ty {
-            set_field(part, field, column);
-            return;
-        }
-    }
-}
-
-/// Does the assignment for each of the rows.
-pub fn assign_all(
+/// What the assignment gives the field of each row, after some columns were written.
+pub fn assigned_column(
     alloc: Global,
     registry: &Registry,
     assign: &Assign,
-    parts: &mut Vec<TypeColumns>,
-    rows: usize,
-) -> Result<(), Memory>
-    requires { IsEven (parts_of parts.old.items) rows }
-    ensures { OnOk result (DoesAssign registry.now assign.now rows (parts_of parts.old.items) (parts_of parts.new.items)) }
+    run: &Run<'_>,
+    item: &Item<'_>,
+    written: &[NewColumn],
+) -> Result<NewColumn, Memory>
+    requires rows { item.now.rows ≡ length item.now.block.now.entities.items }
+    ensures ty { IfOk result (λ c. c.ty ≡ assign.now.ty) }
+    ensures field { IfOk result (λ c. c.field ≡ assign.now.field) }
+    ensures values { IfOk result (λ c. Holds c.values.items (length item.now.block.now.entities.items)
+        (given_at registry.now assign.now (pass_of run.now) item.now.number
+        (with_written written.now (parts_of item.now.block.now.parts.items)) item.now.block.now.entities.items)) }
 {
-    let column = assigned_column(alloc, registry, assign, parts, rows)?;
-    set_column(parts, assign.ty, assign.field, column);
-    Ok(())
+    let kind = kind_of(registry, assign.ty, assign.field);
+    let values = all_kept(alloc, kind, &assign.value, run, item, written)?;
+    Ok(NewColumn {
+        ty: assign.ty,
+        field: assign.field,
+        values,
+    })
 }

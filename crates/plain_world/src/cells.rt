@@ -1,13 +1,15 @@
 //! The cells of a new row, from the parts that a spawn gives.
 ghost use Rattle.std.specs.Prelude.{◌≡◌, ◌+◌, length, map, IfOk, OnOk, option_map};
 ghost use Rattle.ent_types.specs.Registries.{type_at};
-ghost use Rattle.ent_types.specs.declared.value.Value.TheVariants as value;
+ghost use Rattle.ent_types.specs.Fitting.{default_value};
 ghost use Rattle.plain_world.specs.Run.{part_values, cell_of, with_cell, cells_of};
-ghost use Rattle.plain_world.specs.NewRows.{cell_in, cells_in, given_number, cell_place};
+ghost use Rattle.plain_world.specs.NewRows.{cell_in, cells_in, given_value, cell_place};
 
-use crate::alone::kept_alone;
-use ent_types::{FieldInfo, FieldKind, Memory, Registry, TypeId};
-use expr_read::{PartExpr, ValueExpr};
+use crate::keeping::keep;
+use crate::other_rows::NoRows;
+use crate::own_row::SpawnRow;
+use ent_types::{Entity, FieldInfo, FieldKind, Memory, Registry, TypeId, Value};
+use expr_trees::{PartExpr, ValueExpr};
 use std::alloc::Global;
 
 /// What a new row has of one type.
@@ -15,8 +17,8 @@ use std::alloc::Global;
 pub struct NewCell {
     /// The type.
     pub ty: TypeId,
-    /// A number for each field of the type.
-    pub values: Vec<i64>,
+    /// A value for each field of the type.
+    pub values: Vec<Value>,
 }
 
 /// The fields of a type; none where there is no such type.
@@ -29,33 +31,54 @@ pub fn fields_of(registry: &Registry, ty: TypeId) -> &[FieldInfo]
     }
 }
 
-/// The number of a field: what its kind keeps of the value that is given, or 0.
-fn field_number(kind: FieldKind, given: Option<&ValueExpr>) -> i64
-    ensures { result ≡ given_number kind (option_map (λ v. v.now) given.entry) }
+/// What a field of the kind holds before it is set: 0 or the null entity.
+fn default_of(kind: FieldKind) -> Value
+    ensures { result ≡ default_value kind }
 {
-    match given {
-        Some(value) => kept_alone(kind, value),
-        None => 0,
+    match kind {
+        FieldKind::I32 => Value::Int(0),
+        FieldKind::I64 => Value::Int(0),
+        FieldKind::Ref => Value::Ref(Entity::NULL),
     }
 }
 
-/// A number for each of the fields.
-fn numbers_of(alloc: Global, fields: &[FieldInfo], given: &[ValueExpr]) -> Result<Vec<i64>, Memory>
-    ensures { IfOk result (λ v. map (λ z. value.Int z) v.items ≡ part_values fields.now given.now) }
+/// The value of a field in a row of a spawn: what its kind keeps of the value that is given, or its default.
+fn field_value(row: SpawnRow, kind: FieldKind, given: Option<&ValueExpr>) -> Value
+    ensures { result ≡ given_value row.number kind (option_map (λ v. v.now) given.entry) }
 {
-    let mut numbers = Vec::with_capacity(alloc, fields.len())?;
-    for (i, field) in fields.iter().enumerate() {
-        numbers.push(field_number(field.kind, given.get(i)))?;
+    match given {
+        Some(value) => keep(kind, value, &row, &NoRows),
+        None => default_of(kind),
     }
-    Ok(numbers)
+}
+
+/// A value for each of the fields.
+fn values_of(
+    alloc: Global,
+    row: SpawnRow,
+    fields: &[FieldInfo],
+    given: &[ValueExpr],
+) -> Result<Vec<Value>, Memory>
+    ensures { IfOk result (λ v. v.items ≡ part_values row.number fields.now given.now) }
+{
+    let mut values = Vec::with_capacity(alloc, fields.len())?;
+    for (i, field) in fields.iter().enumerate() {
+        values.push(field_value(row, field.kind, given.get(i)))?;
+    }
+    Ok(values)
 }
 
 /// The cell that a part gives.
-fn cell_of(alloc: Global, registry: &Registry, part: &PartExpr) -> Result<NewCell, Memory>
-    ensures { IfOk result (λ c. cell_in c ≡ cell_of registry.now part.now) }
+fn cell_of(
+    alloc: Global,
+    registry: &Registry,
+    row: SpawnRow,
+    part: &PartExpr,
+) -> Result<NewCell, Memory>
+    ensures { IfOk result (λ c. cell_in c ≡ cell_of registry.now row.number part.now) }
 {
     let fields = fields_of(registry, part.ty);
-    let values = numbers_of(alloc, fields, part.values.as_slice())?;
+    let values = values_of(alloc, row, fields, part.values.as_slice())?;
     Ok(NewCell {
         ty: part.ty,
         values,
@@ -84,18 +107,19 @@ fn insert_cell(cells: &mut Vec<NewCell>, cell: NewCell) -> Result<(), Memory>
     Ok(())
 }
 
-/// The cells of a row with these parts, by rising type.
+/// The cells of a row of a spawn with these parts, by rising type.
 pub fn cells_of(
     alloc: Global,
     registry: &Registry,
+    row: SpawnRow,
     parts: &[PartExpr],
 ) -> Result<Vec<NewCell>, Memory>
-    ensures cells { IfOk result (λ v. cells_in v.items ≡ cells_of registry.now parts.now) }
+    ensures cells { IfOk result (λ v. cells_in v.items ≡ cells_of registry.now row.number parts.now) }
     ensures count { IfOk result (λ v. length v.items ≡ length parts.now) }
 {
     let mut cells = Vec::with_capacity(alloc, parts.len())?;
     for part in parts {
-        insert_cell(&mut cells, cell_of(alloc, registry, part)?)?;
+        insert_cell(&mut cells, cell_of(alloc, registry, row, part)?)?;
     }
     Ok(cells)
 }

@@ -1,14 +1,19 @@
 //! The world on one thread, as the forms that are run need it: rows in columns, block after block.
 #![tactic(auto)]
 
-mod alone;
 mod assign;
 mod block;
 mod cells;
 mod entering;
-mod evaluation;
 mod frames;
+mod item;
+mod keeping;
+mod numbers;
+mod other_rows;
+mod own_row;
 mod pushing;
+mod putting;
+mod reading;
 mod room;
 mod running;
 #[cfg(test)]
@@ -19,10 +24,8 @@ mod tests;
 mod visiting;
 mod world;
 
-pub use block::{PlainBlock, TypeColumns};
-pub use evaluation::evaluate;
+pub use block::{NewColumn, Place, PlainBlock, TypeColumns};
 pub use frames::{run_frame, run_frames};
 pub use running::run_scenario;
 pub use spawning::spawn_all;
-pub use visiting::visit;
 pub use world::{PlainWorld, raise, run_system};

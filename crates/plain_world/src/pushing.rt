@@ -1,30 +1,30 @@
 //! A new row at the end of a block's columns.
-ghost use Rattle.std.specs.Prelude.{◌≡◌, length, map, OnOk};
+ghost use Rattle.std.specs.Prelude.{◌≡◌, [], ◌∷◌, ◌++◌, length, map, OnOk};
 ghost use Rattle.world_model.specs.Enter.{entered};
 ghost use Rattle.plain_world.specs.Plain.{part_of, parts_of, block_of, IsEvenBlock};
-ghost use Rattle.plain_world.specs.NewRows.{cells_in, new_row, with_numbers, part_with, parts_with, AreFitting};
+ghost use Rattle.plain_world.specs.NewRows.{cells_in, new_row, with_values, part_with, parts_with, AreFitting};
 
 use crate::block::{PlainBlock, TypeColumns};
 use crate::cells::NewCell;
-use ent_types::Memory;
+use ent_types::{Memory, Value};
 
-/// Puts a number at the end of each column.
-fn push_numbers(columns: &mut Vec<Vec<i64>>, numbers: &[i64]) -> Result<(), Memory>
-    requires { length columns.old.items ≡ length numbers.now }
-    ensures { OnOk result (map (λ c. c.items) columns.new.items ≡ with_numbers (map (λ c. c.items) columns.old.items) numbers.now) }
+/// Puts a value at the end of each column.
+fn push_values(columns: &mut Vec<Vec<Value>>, values: &[Value]) -> Result<(), Memory>
+    requires { length columns.old.items ≡ length values.now }
+    ensures { OnOk result (map (λ c. c.items) columns.new.items ≡ with_values (map (λ c. c.items) columns.old.items) values.now) }
 {
-    for (i, number) in numbers.iter().enumerate() {
-        columns[i].push(*number)?;
+    for (i, value) in values.iter().enumerate() {
+        columns[i].push(*value)?;
     }
     Ok(())
 }
 
-/// Puts the cell's numbers at the ends of the type's columns, and marks the type.
+/// Puts the cell's values at the ends of the type's columns, and marks the type.
 fn push_cell(part: &mut TypeColumns, cell: &NewCell, now: u32) -> Result<(), Memory>
     requires { length (part_of part.old).columns ≡ length cell.now.values.items }
     ensures { OnOk result (part_of part.new ≡ part_with now (part_of part.old) cell.now) }
 {
-    push_numbers(&mut part.fields, cell.values.as_slice())?;
+    push_values(&mut part.fields, cell.values.as_slice())?;
     part.mark = now;
     Ok(())
 }
@@ -53,6 +53,7 @@ pub fn push_row(
     ensures block { OnOk result (block_of block.new ≡ entered now (new_row entity (cells_in cells.now)) (block_of block.old)) }
     ensures fits { OnOk result (AreFitting (parts_of block.new.parts.items) cells.now) }
     ensures even { OnOk result (IsEvenBlock block.new) }
+    ensures entities { OnOk result (block.new.entities.items ≡ block.old.entities.items ++ entity ∷ []) }
 {
     push_cells(&mut block.parts, cells, now)?;
     block.entities.push(entity)?;

@@ -1,12 +1,14 @@
 //! Spawns over rows in columns, and a scenario run from its spawns to its end.
 ghost use Rattle.std.specs.Prelude.{◌≤◌, length, sum_by, All, IsTrue};
-ghost use Rattle.scenario_form.specs.Formed.{IsOfForm};
+ghost use Rattle.scenario_record.specs.Runnable.{IsRunnable};
 
 use crate::tests::{COUNT, system};
 use crate::{PlainBlock, PlainWorld, run_scenario, spawn_all};
-use ent_types::{FieldInfo, FieldKind, Kind, Name, Registry, Sequence, TypeId, TypeInfo, TypeSet};
-use expr_read::{Expr, PartExpr, ValueExpr};
-use scenario_read::{Scenario, SpawnEntry, SystemEntry};
+use ent_types::{
+    FieldInfo, FieldKind, Kind, Name, Registry, Sequence, TypeId, TypeInfo, TypeSet, Value,
+};
+use expr_trees::{Expr, PartExpr, ValueExpr};
+use scenario_record::{Scenario, SpawnEntry, SystemEntry};
 use std::alloc::Global;
 use std::test::Fail;
 
@@ -82,9 +84,9 @@ fn counts(alloc: Global, count: u32) -> Result<SpawnEntry, Fail> {
     Ok(rows(count, parts))
 }
 
-/// Says whether the spawns make at most 1,048,576 rows of at most 256 parts each.
+/// Says whether the spawns make at most 1,048,576 rows.
 fn are_few(spawns: &[SpawnEntry]) -> bool
-    ensures { IsTrue result → (sum_by (λ p. p.count) spawns.now ≤ 1048576) × All (λ p. length p.parts ≤ 256) spawns.now }
+    ensures { IsTrue result → sum_by (λ p. p.count) spawns.now ≤ 1048576 }
 {
     let mut count: u64 = 0;
     for entry in spawns {
@@ -92,16 +94,13 @@ fn are_few(spawns: &[SpawnEntry]) -> bool
         if count > 1_048_576 {
             return false;
         }
-        if entry.parts.len() > 256 {
-            return false;
-        }
     }
     true
 }
 
-/// Says whether the scenario is of the form that is run.
-fn is_of_form(scenario: &Scenario) -> bool
-    ensures { IsTrue result → IsOfForm scenario.now }
+/// Says whether the scenario can be run.
+fn is_runnable(scenario: &Scenario) -> bool
+    ensures { IsTrue result → IsRunnable scenario.now }
 {
     if scenario.frames > 100_000 {
         return false;
@@ -132,14 +131,15 @@ fn scenario(
         system: Sequence::from_vec(systems),
         event: Sequence::new(alloc),
         placed: false,
+        unbuilt: false,
     })
 }
 
 /// The world after these spawns.
 fn spawned(alloc: Global, spawns: Vec<SpawnEntry>) -> Result<PlainWorld, Fail> {
     let scenario = scenario(alloc, 0, spawns, Vec::new(alloc))?;
-    if !is_of_form(&scenario) {
-        return Err("not of the form".into());
+    if !is_runnable(&scenario) {
+        return Err("not to be run".into());
     }
     Ok(spawn_all(alloc, &scenario)?)
 }
@@ -159,7 +159,7 @@ fn block(world: &PlainWorld, at: usize) -> Result<&PlainBlock, Fail> {
 }
 
 /// The column of a field of the part at a place.
-fn column(block: &PlainBlock, part: usize, field: usize) -> Result<&[i64], Fail> {
+fn column(block: &PlainBlock, part: usize, field: usize) -> Result<&[Value], Fail> {
     let part = block.parts.get(part).ok_or("no part")?;
     Ok(part.fields.get(field).ok_or("no field")?.as_slice())
 }
@@ -174,7 +174,7 @@ fn a_block_takes_128_rows(rt: HostRuntime) -> Result<(), Fail> {
     let last = block(&world, 1)?;
     assert_eq!(rt; last.entities.as_slice(), [128].as_slice());
     assert_eq!(rt; last.order, 1);
-    assert_eq!(rt; column(last, 0, 0)?, [5].as_slice());
+    assert_eq!(rt; column(last, 0, 0)?, [Value::Int(5)].as_slice());
     let part = last.parts.get(0).ok_or("no part")?;
     assert_eq!(rt; part.ty.0, 3);
     assert_eq!(rt; part.mark, 1);
@@ -210,10 +210,10 @@ fn wide_rows_take_more_blocks(rt: HostRuntime) -> Result<(), Fail> {
     let world = spawned(alloc, spawns)?;
     assert_eq!(rt; sizes(alloc, &world)?.as_slice(), [120, 1, 128].as_slice());
     let second = block(&world, 1)?;
-    assert_eq!(rt; column(second, 0, 7)?, [8].as_slice());
-    assert_eq!(rt; column(second, 1, 1)?, [8].as_slice());
+    assert_eq!(rt; column(second, 0, 7)?, [Value::Int(8)].as_slice());
+    assert_eq!(rt; column(second, 1, 1)?, [Value::Int(8)].as_slice());
     // Fields without a value are 0.
-    assert_eq!(rt; column(second, 1, 7)?, [0].as_slice());
+    assert_eq!(rt; column(second, 1, 7)?, [Value::Int(0)].as_slice());
     Ok(())
 }
 
@@ -231,7 +231,10 @@ fn a_field_keeps_the_low_bits(rt: HostRuntime) -> Result<(), Fail> {
     let alloc = rt.alloc();
     let parts = vec![in alloc; part(alloc, COUNT, &[4_294_967_301])?]?;
     let world = spawned(alloc, vec![in alloc; rows(2, parts)]?)?;
-    assert_eq!(rt; column(block(&world, 0)?, 0, 0)?, [5, 5].as_slice());
+    assert_eq!(rt;
+        column(block(&world, 0)?, 0, 0)?,
+        [Value::Int(5), Value::Int(5)].as_slice()
+    );
     Ok(())
 }
 
@@ -241,13 +244,16 @@ fn a_scenario_is_run(rt: HostRuntime) -> Result<(), Fail> {
     let alloc = rt.alloc();
     let systems = vec![in alloc; system(alloc)?]?;
     let scenario = scenario(alloc, 2, vec![in alloc; counts(alloc, 2)?]?, systems)?;
-    if !is_of_form(&scenario) {
-        return Err("not of the form".into());
+    if !is_runnable(&scenario) {
+        return Err("not to be run".into());
     }
     let world = run_scenario(alloc, &scenario)?;
     assert_eq!(rt; world.moment, 15);
     let first = block(&world, 0)?;
-    assert_eq!(rt; column(first, 0, 0)?, [7, 7].as_slice());
+    assert_eq!(rt;
+        column(first, 0, 0)?,
+        [Value::Int(7), Value::Int(7)].as_slice()
+    );
     assert_eq!(rt; first.order, 1);
     assert_eq!(rt; first.parts.get(0).ok_or("no part")?.mark, 13);
     Ok(())

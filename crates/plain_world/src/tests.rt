@@ -1,8 +1,8 @@
 //! A system over rows in columns, run once.
-use crate::{PlainBlock, PlainWorld, evaluate, raise, run_frame, run_frames, run_system, visit};
+use crate::{PlainWorld, raise, run_frame, run_frames, run_system};
 use ent_types::{FieldInfo, FieldKind, Kind, Name, Registry, Sequence, TypeId, TypeInfo, TypeSet};
-use expr_read::{Assign, BinaryOp, Expr, ValueExpr};
-use scenario_read::{Scenario, SystemEntry};
+use expr_trees::{Assign, BinaryOp, Expr, ValueExpr};
+use scenario_record::{Scenario, SystemEntry};
 use sqlite_items::Boxed;
 use std::alloc::Global;
 use std::test::Fail;
@@ -73,36 +73,11 @@ pub fn system(alloc: Global) -> Result<SystemEntry, Fail> {
 }
 
 #[test]
-fn a_difference_is_evaluated_for_each_row(rt: HostRuntime) -> Result<(), Fail> {
-    let alloc = rt.alloc();
-    let left = Boxed::new(alloc, one_more(alloc)?)?;
-    let right = Boxed::new(alloc, Expr::Number(5))?;
-    let expr = Expr::Binary(BinaryOp::Minus, left, right);
-    // The rows have no field, so Count.v is 0.
-    let numbers = evaluate(alloc, &[], 2, &expr)?;
-    assert_eq!(rt; numbers.as_slice(), [-4, -4].as_slice());
-    Ok(())
-}
-
-#[test]
-fn a_block_without_the_types_stays(rt: HostRuntime) -> Result<(), Fail> {
-    let alloc = rt.alloc();
-    let mut block = PlainBlock {
-        parts: Vec::new(alloc),
-        entities: vec![in alloc; 0u32, 1]?,
-        order: 1,
-    };
-    visit(alloc, &registry(alloc)?, &system(alloc)?, 7, &mut block)?;
-    assert_eq!(rt; block.entities.as_slice(), [0, 1].as_slice());
-    assert_eq!(rt; block.order, 1);
-    Ok(())
-}
-
-#[test]
 fn frames_raise_the_moment(rt: HostRuntime) -> Result<(), Fail> {
     let alloc = rt.alloc();
     let mut world = PlainWorld {
         blocks: Vec::new(alloc),
+        places: Vec::new(alloc),
         made: 0,
         moment: 1,
     };
@@ -118,16 +93,17 @@ fn frames_raise_the_moment(rt: HostRuntime) -> Result<(), Fail> {
         system: systems,
         event: Sequence::new(alloc),
         placed: false,
+        unbuilt: false,
     };
     raise(&mut world);
     assert_eq!(rt; world.moment, 2);
     world.moment = 1;
-    run_system(alloc, &scenario.registry, &system(alloc)?, &mut world)?;
+    run_system(alloc, &scenario.registry, &system(alloc)?, 1, &mut world)?;
     assert_eq!(rt; world.moment, 2);
     let frames = scenario.frames;
     assert_eq!(rt; frames, 2);
     assert_eq!(rt; scenario.system.len(), 1);
-    run_frame(alloc, &scenario, &mut world)?;
+    run_frame(alloc, &scenario, 1, &mut world)?;
     assert_eq!(rt; world.moment, 9);
     run_frames(alloc, &scenario, &mut world)?;
     assert_eq!(rt; world.moment, 23);

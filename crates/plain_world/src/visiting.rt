@@ -1,28 +1,20 @@
 //! What a system does with the rows of a block.
-ghost use Rattle.std.specs.Prelude.{◌≡◌, length, map, OnOk};
-ghost use Rattle.ent_types.specs.TypeSets.{has_type, is_subset_of};
-ghost use Rattle.plain_world.specs.Run.{visited};
-ghost use Rattle.plain_world.specs.Plain.{part_of, parts_of, types_in, IsEven, block_of};
-ghost use Rattle.plain_world.specs.Evaluated.{DoesJob, types_set, marked_part};
+ghost use Rattle.std.specs.Prelude.{◌≡◌, length, is_some, IfOk};
+ghost use Rattle.ent_types.specs.TypeSets.{is_subset_of};
+ghost use Rattle.plain_world.specs.Run.{visited, is_met};
+ghost use Rattle.plain_world.specs.Plain.{parts_of, types_in, block_of, IsEven, IsEvenBlock};
+ghost use Rattle.plain_world.specs.Evaluated.{DoesJob, with_written, types_set, block_after, IsEvenAfter};
+ghost use Rattle.plain_world.specs.Passing.{pass_of};
+ghost use Rattle.std.specs.Prelude.{if◌then◌else◌};
 
-use crate::assign::assign_all;
-use crate::block::{PlainBlock, TypeColumns};
-use ent_types::{Memory, Registry, TypeId, TypeSet};
-use expr_read::Assign;
-use scenario_read::SystemEntry;
+use crate::assign::assigned_column;
+use crate::block::{NewColumn, PlainBlock, TypeColumns};
+use crate::item::{Item, Run};
+use crate::reading::has_part;
+use ent_types::{Memory, Registry, TypeSet};
+use expr_trees::Assign;
+use scenario_record::SystemEntry;
 use std::alloc::Global;
-
-/// Says whether the rows have the type.
-fn has_part(parts: &[TypeColumns], ty: TypeId) -> bool
-    ensures { result ≡ has_type (types_in (parts_of parts.now)) ty.0 }
-{
-    for part in parts {
-        if part.ty == ty {
-            return true;
-        }
-    }
-    false
-}
 
 /// Says whether the rows have each of the types.
 fn has_all(all: &TypeSet, parts: &[TypeColumns]) -> bool
@@ -36,72 +28,54 @@ fn has_all(all: &TypeSet, parts: &[TypeColumns]) -> bool
     true
 }
 
-/// Says whether one of the assignments writes the type.
-fn writes(set: &[Assign], ty: TypeId) -> bool
-    ensures { result ≡ has_type (types_set set.now) ty.0 }
-{
-    for assign in set {
-        if assign.ty == ty {
-            return true;
-        }
-    }
-    false
-}
-
-/// Marks the type where the assignments write it.
-fn mark(set: &[Assign], now: u32, part: &mut TypeColumns)
-    ensures { part_of part.new ≡ marked_part now (types_set set.now) (part_of part.old) }
-{
-    if writes(set, part.ty) {
-        part.mark = now;
-    }
-}
-
-/// Marks the types that the assignments write.
-fn mark_all(set: &[Assign], now: u32, parts: &mut Vec<TypeColumns>)
-    ensures { parts_of parts.new.items ≡ map (marked_part now (types_set set.now)) (parts_of parts.old.items) }
-{
-    for i in 0..parts.len() {
-        let part = &mut parts[i];
-        mark(set, now, part);
-    }
-}
-
-/// Does all assignments, in order, for each of the rows.
+/// The columns that all assignments write, in order, for the rows of a block.
 fn do_job(
     alloc: Global,
     registry: &Registry,
     set: &[Assign],
-    parts: &mut Vec<TypeColumns>,
-    rows: usize,
-) -> Result<(), Memory>
-    requires { IsEven (parts_of parts.old.items) rows }
-    ensures { OnOk result (DoesJob registry.now set.now rows (parts_of parts.old.items) (parts_of parts.new.items)) }
+    run: &Run<'_>,
+    item: &Item<'_>,
+) -> Result<Vec<NewColumn>, Memory>
+    requires rows { item.now.rows ≡ length item.now.block.now.entities.items }
+    requires even { IsEvenBlock item.now.block.now }
+    ensures { IfOk result (λ columns. DoesJob registry.now set.now (pass_of run.now) item.now.number item.now.block.now.entities.items
+        (parts_of item.now.block.now.parts.items) (with_written columns.items (parts_of item.now.block.now.parts.items))) }
 {
+    let mut columns = Vec::with_capacity(alloc, set.len())?;
     for assign in set {
-        assign_all(alloc, registry, assign, parts, rows)?;
+        let column = assigned_column(alloc, registry, assign, run, item, columns.as_slice())?;
+        columns.push(column)?;
     }
-    Ok(())
+    Ok(columns)
 }
 
-/// Runs the system on the block at the moment `now`: where it has all of the system's types, each row has the system's
-/// job done, and the types that the system writes are marked.
+/// The columns that the system writes for the rows of a block, which it meets as the item of this number; `None` where
+/// the block lacks one of the system's types. A block whose rows have no number of 32 bits also is want of memory.
 pub fn visit(
     alloc: Global,
     registry: &Registry,
     system: &SystemEntry,
-    now: u32,
-    block: &mut PlainBlock,
-) -> Result<(), Memory>
-    requires { IsEven (parts_of block.old.parts.items) (length block.old.entities.items) }
-    ensures block { OnOk result (block_of block.new ≡ visited registry.now now system.now (block_of block.old)) }
-    ensures even { OnOk result (IsEven (parts_of block.new.parts.items) (length block.new.entities.items)) }
+    run: &Run<'_>,
+    number: u32,
+    block: &PlainBlock,
+) -> Result<Option<Vec<NewColumn>>, Memory>
+    requires { IsEvenBlock block.now }
+    ensures met { IfOk result (λ v. is_some v ≡ is_met system.now (block_of block.now)) }
+    ensures block { IfOk result (λ v. block_after run.now.moment (types_set system.now.set) block.now v
+        ≡ (if is_met system.now (block_of block.now) then visited registry.now system.now (pass_of run.now) number (block_of block.now) else block_of block.now)) }
+    ensures even { IfOk result (λ v. IsEvenAfter run.now.moment (types_set system.now.set) block.now v) }
 {
     if !has_all(&system.all, &block.parts) {
-        return Ok(());
+        return Ok(None);
     }
-    let set = system.set.as_slice();
-    do_job(alloc, registry, set, &mut block.parts, block.entities.len())?;
-    mark_all(set, now, &mut block.parts);
-    Ok(())
+    let Ok(rows) = u32::try_from(block.entities.len()) else {
+        return Err(Memory);
+    };
+    let item = Item {
+        block,
+        rows,
+        number,
+    };
+    let columns = do_job(alloc, registry, system.set.as_slice(), run, &item)?;
+    Ok(Some(columns))
 }

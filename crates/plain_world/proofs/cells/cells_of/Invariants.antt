@@ -7,5 +7,5 @@ use Rattle.plain_world.proofs.cells.cells_of.Given as goal
 -- the parts that are left lead to the same cells
 abbrev pub invariant-loop-part : goal.invariant-loop-part
 invariant-loop-part l =
-    (fold (λ cells p. with_cell (cell_of l.registry p) cells) (cells_in l.cells.items) (drop l.part-index l.parts) ≡ cells_of l.registry l.parts)
+    (fold (λ cells p. with_cell (cell_of l.registry l.row.number p) cells) (cells_in l.cells.items) (drop l.part-index l.parts) ≡ cells_of l.registry l.row.number l.parts)
     × (length l.cells.items ≡ l.part-index)

@@ -1,7 +1,6 @@
-use Rattle.std.proofs.Common.{◌≤◌, ◌<◌, length, subst, ap, arith}
-use Rattle.std.proofs.lemmas.List.Elements.{All-more}
+use Rattle.std.proofs.Common.{◌<◌, length, ap, arith}
 use Rattle.std.proofs.lemmas.List.Sums.{sum_by_more}
-use Rattle.scenario_read.specs.declared.record.SpawnEntry.{SpawnEntry}
+use Rattle.scenario_record.specs.declared.record.SpawnEntry.{SpawnEntry}
 use Rattle.plain_world.proofs.spawn_tests.are_few.Goals as goal
 
 pub loop-entry-preserved : goal.loop-entry-preserved
@@ -9,13 +8,10 @@ loop-entry-preserved c =
     let spawns = c.args.spawns.now in
     let i = c.loop-entry.entry-index in
     let entry = c.entry-item.result in
-    let IsSmall : SpawnEntry → Type 0 = λ p. length p.parts ≤ 256 in
-    let small : IsSmall entry = omega arith in
     let within : i < length spawns = omega arith in
     let more = sum_by_more (λ (p : SpawnEntry). p.count) spawns i entry within in
     let same = ap (λ (p : SpawnEntry). p.count) c.entry-item.is in
     record {
       count = omega (arith, more, same);
       most = omega arith;
-      parts = All-more IsSmall spawns i entry within c.loop-entry.invariant.parts (subst IsSmall c.entry-item.is small);
     }

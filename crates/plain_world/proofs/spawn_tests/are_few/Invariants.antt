@@ -1,5 +1,5 @@
-use Rattle.std.proofs.Common.{◌≡◌, ◌≤◌, take, length}
-use Rattle.std.specs.List.{All, sum_by}
+use Rattle.std.proofs.Common.{◌≡◌, ◌≤◌, take}
+use Rattle.std.specs.List.{sum_by}
 use Rattle.plain_world.proofs.spawn_tests.are_few.Given as goal
 
 -- the spawns so far make this many rows
@@ -8,5 +8,4 @@ invariant-loop-entry l =
     record {
       count : l.count ≡ sum_by (λ p. p.count) (take l.entry-index l.spawns);
       most : l.count ≤ 1048576;
-      parts : All (λ p. length p.parts ≤ 256) (take l.entry-index l.spawns);
     }

@@ -1,27 +1,31 @@
-use Rattle.std.proofs.Common.{◌<◌, sym, ap, ◌∙◌, arith, map, length}
-use Rattle.std.proofs.lemmas.List.{map-set, length-map, length-set}
-use Rattle.std.proofs.lemmas.List.Edits.{map_over_more}
-use Rattle.std.proofs.Math.ListN.{get_or-map, set}
-use Rattle.plain_world.specs.Run.{visited}
-use Rattle.plain_world.specs.Plain.{block_of}
-use Rattle.plain_world.proofs.Evens.{even_at, even-set}
+use Rattle.std.proofs.Common.{◌≡◌, ◌+◌, length, take, sym, ap, ◌∙◌, arith}
+use Rattle.std.proofs.lemmas.List.{length_push, length-take-le}
+use Rattle.plain_world.specs.Evaluated.{types_set}
+use Rattle.plain_world.specs.Passing.{pass_of}
+use Rattle.plain_world.proofs.Evens.{even_at}
+use Rattle.plain_world.proofs.Passes.{visits_more, even_visits}
 use Rattle.plain_world.proofs.world.visit_all.Goals as goal
 
 pub visit-requires : goal.visit-requires
-visit-requires c =
-    even_at c.loop-i.blocks.items c.loop-i.i _ (omega (arith, c.loop-i.invariant.1)) c.index_mut-block.ensures.value c.loop-i.invariant.2
+visit-requires c = even_at c.args.blocks.now c.loop-block.block-index _ (omega arith) c.block-item.is c.requires
 
-pub loop-i-preserved : goal.loop-i-preserved
-loop-i-preserved c =
-    let blocks = c.loop-i.blocks.items in
-    let first = map block_of c.args.blocks.now.items in
-    let block = c.index_mut-block.result.now in
-    let change = visited c.args.registry.now c.args.now c.args.system.now in
-    let within : c.loop-i.i < length first = simp length-map (omega (arith, c.loop-i.invariant.1)) in
-    let found = ap block_of c.index_mut-block.ensures.value ∙ sym (get_or-map block_of blocks c.loop-i.i block) in (
-      map-set block_of blocks c.loop-i.i c.visit.new.block
-          ∙ (ap (set (map block_of blocks) c.loop-i.i) c.in_ok-visit.ensures.block
-          ∙ map_over_more change first (map block_of blocks) c.loop-i.i (block_of block) within c.loop-i.invariant.0 found),
-      length-set blocks c.loop-i.i c.visit.new.block ∙ c.loop-i.invariant.1,
-      even-set blocks c.loop-i.i c.visit.new.block c.loop-i.invariant.2 c.in_ok-visit.ensures.even,
-    )
+pub loop-block-preserved : goal.loop-block-preserved
+loop-block-preserved c =
+    let blocks = c.args.blocks.now in
+    let i = c.loop-block.block-index in
+    let block = c.block-item.result in
+    let visits = c.loop-block.visits.items in
+    let types = types_set c.args.system.now.set in
+    let pass = pass_of c.args.run.now in
+    let size : length visits ≡ length (take i blocks) = c.loop-block.invariant.count ∙ sym (length-take-le i blocks (omega arith)) in
+    let next = rw (c.is_some.ensures, c.in_ok-written.ensures.met) at c.in_ok-item.ensures in
+    record {
+      blocks =
+          rw c.in_ok-push.ensures.items
+          (visits_more c.args.registry.now c.args.system.now pass types blocks visits i block c.in_ok-written.written c.loop-block.item _ _ (omega arith) c.block-item.is size
+          c.in_ok-written.ensures.block next c.loop-block.invariant.blocks);
+      even =
+          rw c.in_ok-push.ensures.items
+          (even_visits c.args.run.now.moment types blocks visits i block c.in_ok-written.written (omega arith) c.block-item.is size c.loop-block.invariant.even c.in_ok-written.ensures.even);
+      count = rw (c.in_ok-push.ensures.items, length_push) (ap (λ n. n + 1) c.loop-block.invariant.count);
+    }

@@ -1,0 +1,23 @@
+use Rattle.std.proofs.Common.{◌+◌, List, ap, ◌∙◌}
+use Rattle.world_model.specs.World.{World, Block}
+use Rattle.plain_world.specs.Plain.{world_of}
+use Rattle.plain_world.specs.Placed.{entities_in}
+use Rattle.plain_world.proofs.Runs.{visits_seen, tell_same}
+use Rattle.plain_world.proofs.world.run_system.Goals as goal
+
+pub returns-clause-world : goal.returns-clause-world
+returns-clause-world c =
+    let world = c.args.world.now in
+    let first : World = world_of world in
+    let seen = rw (c.as_slice.ensures.value, c.as_slice-2.ensures.value, c.as_slice-3.ensures.value) at c.in_ok-visits.ensures.blocks in
+    let put = rw c.as_slice-4.ensures at c.put_all.ensures.blocks in
+    ap (λ (bs : List Block). record first { blocks = bs; moment = world.moment + 1 })
+    (put ∙ (seen ∙ visits_seen c.args.registry.now c.args.system.now world.blocks.items world.places.items c.args.frame (world.moment + 1) c.requires.placed.told))
+
+pub returns-clause-placed : goal.returns-clause-placed
+returns-clause-placed c =
+    let world = c.args.world.now in
+    record {
+      told = tell_same (entities_in world.blocks.items) _ world.places.items c.put_all.ensures.entities c.requires.placed.told;
+      count = c.requires.placed.count;
+    }

@@ -1,7 +1,0 @@
-use Rattle.toml.proofs.Views.{table_get}
-use Rattle.scenario_form.proofs.KeyLemmas.{value_cases}
-use Rattle.scenario_form.proofs.keys.value_of.Goals as goal
-
-pub returns : goal.returns
-returns c =
-    value_cases c.get.result _ (table_get c.get.result c.args.key.now c.args.table.now.entries c.get.ensures.value)

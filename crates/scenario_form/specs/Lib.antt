@@ -1,4 +1,0 @@
-pub mod Form
-pub mod Formed
-pub mod Reading
-pub mod Reads
