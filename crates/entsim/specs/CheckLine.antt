@@ -1,7 +1,7 @@
 -- The line of a scenario that passes its checks.
 use Rattle.std.specs.Prelude.{ℕ, ◌-◌, List, ◌++◌, codes, length}
 use Rattle.std.specs.Fmt.{decimal}
-use Rattle.scenario_read.specs.declared.record.Scenario.{Scenario}
+use Rattle.scenario_record.specs.declared.record.Scenario.{Scenario}
 
 -- its own types, its systems and its frames
 unfoldable pub ok_line : Scenario → List ℕ

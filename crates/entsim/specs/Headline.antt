@@ -1,6 +1,7 @@
 -- What the top call promises.
 use Rattle.std.specs.Prelude.{◌≡◌, ℕ, List, Option, None, Some, Result, Ok, Err}
 use Rattle.ent_io.specs.Text.{appended, AppendsPrefix}
+use Rattle.ent_io.specs.End.{status_of}
 use Rattle.ent_io.specs.declared.end.End.{End}
 use Rattle.ent_io.specs.declared.end.Status.{Status}
 use Rattle.ent_io.specs.declared.end.Status.TheVariants.{Done, BadWords, Refused, KeyShared, ReadFault, WriteFault, Memory}
@@ -27,27 +28,35 @@ Ends o ReadFault old new = AppendsPrefix o.text old new
 Ends o WriteFault old new = AppendsPrefix o.text old new
 Ends o Memory old new = AppendsPrefix o.text old new
 
+-- the status of a call, from the end of one below it
+abbrev pub status_after : Result Status End → Status
+status_after (Ok status) = status
+status_after (Err end) = status_of end
+
+-- what comes of words that are no command
+abbrev pub OfBadWords : Status → Type 0
+OfBadWords Done = ⊥
+OfBadWords BadWords = Unit {0}
+OfBadWords Refused = ⊥
+OfBadWords KeyShared = ⊥
+OfBadWords ReadFault = Unit {0}
+OfBadWords WriteFault = Unit {0}
+OfBadWords Memory = Unit {0}
+
+-- what comes of a command
+abbrev pub OfCommand : Status → Type 0
+OfCommand Done = Unit {0}
+OfCommand BadWords = ⊥
+OfCommand Refused = Unit {0}
+OfCommand KeyShared = Unit {0}
+OfCommand ReadFault = Unit {0}
+OfCommand WriteFault = Unit {0}
+OfCommand Memory = Unit {0}
+
 -- BadWords comes exactly by the words, whatever is told
 abbrev pub WordsDecide : Option Command → Status → Type 0
-WordsDecide None Done = ⊥
-WordsDecide None BadWords = Unit {0}
-WordsDecide None Refused = ⊥
-WordsDecide None KeyShared = ⊥
-WordsDecide None ReadFault = Unit {0}
-WordsDecide None WriteFault = Unit {0}
-WordsDecide None Memory = Unit {0}
-WordsDecide (Some command) Done = Unit {0}
-WordsDecide (Some command) BadWords = ⊥
-WordsDecide (Some command) Refused = Unit {0}
-WordsDecide (Some command) KeyShared = Unit {0}
-WordsDecide (Some command) ReadFault = Unit {0}
-WordsDecide (Some command) WriteFault = Unit {0}
-WordsDecide (Some command) Memory = Unit {0}
-
--- the same of a call below the top
-abbrev pub AnswersWords : Option Command → Result Status End → Type 0
-AnswersWords command (Ok status) = WordsDecide command status
-AnswersWords command (Err end) = Unit {0}
+WordsDecide None status = OfBadWords status
+WordsDecide (Some command) status = OfCommand status
 
 -- a call that ends well has one of the statuses of a whole text
 abbrev pub IsWhole : Status → Type 0
@@ -63,7 +72,7 @@ abbrev pub EndsWhole : Result Status End → Type 0
 EndsWhole (Ok status) = IsWhole status
 EndsWhole (Err end) = Unit {0}
 
--- a command that ends well is done or refused
+-- a command that ends well isn't refused by its words, and its text is whole
 abbrev pub IsObeyed : Status → Type 0
 IsObeyed Done = Unit {0}
 IsObeyed BadWords = ⊥

@@ -7,11 +7,11 @@ use Rattle.ent_io.specs.declared.end.Status.TheVariants.{Done, BadWords, Refused
 use Rattle.ent_io.specs.declared.reading.Missing.{Missing}
 use Rattle.ent_io.specs.declared.reading.Missing.TheVariants.{Absent, TooLong}
 use Rattle.scenario_read.specs.declared.fault.BadScenario.{BadScenario}
-use Rattle.scenario_read.specs.declared.record.Scenario.{Scenario}
+use Rattle.scenario_record.specs.declared.record.Scenario.{Scenario}
 use Rattle.scenario_read.specs.ReadScenario.{scenario_of}
 use Rattle.scenario_check.specs.declared.plan.Plan.{Plan}
 use Rattle.scenario_check.specs.Planned.{checked}
-use Rattle.scenario_form.specs.Reading.{scenario_of as form_of}
+use Rattle.scenario_check.specs.Built.{is_built}
 use Rattle.plain_world.specs.Run.{world_after}
 use Rattle.plain_text.specs.Lines.{world_text}
 use Rattle.entsim.specs.ErrorLines.{missing_line, fault_line, unbuilt_line, words_line}
@@ -37,43 +37,43 @@ done text = record { text = text; status = Done }
 unfoldable pub run_outcome : Scenario → Outcome
 run_outcome s = done (world_text s.registry s.frames (world_after s))
 
--- of the scenarios that pass their checks, those of the first form are run
-abbrev pub form_outcome : Result Scenario BadScenario → Outcome
-form_outcome (Ok s) = run_outcome s
-form_outcome (Err fault) = refused (fault_line fault)
+-- a command or a form that isn't built yet
+abbrev pub unbuilt : Outcome
+unbuilt = refused unbuilt_line
 
--- what a command does with the bytes of a scenario that passes its checks
-abbrev pub passed_outcome : Task → List ℕ → Scenario → Outcome
-passed_outcome Run bytes s = form_outcome (form_of bytes)
-passed_outcome Check bytes s = done (ok_line s)
+-- of the scenarios that pass their checks, those of the forms that are built are run
+abbrev pub built_outcome : Scenario → Outcome
+built_outcome s = if is_built s then run_outcome s else unbuilt
 
-abbrev pub checked_outcome : Task → List ℕ → Scenario → Result Plan BadScenario → Outcome
-checked_outcome task bytes s (Ok _) = passed_outcome task bytes s
-checked_outcome task bytes s (Err fault) = refused (fault_line fault)
+-- what a command does with a scenario that passes its checks
+abbrev pub passed_outcome : Task → Scenario → Outcome
+passed_outcome Run s = built_outcome s
+passed_outcome Check s = done (ok_line s)
+
+abbrev pub checked_outcome : Task → Scenario → Result Plan BadScenario → Outcome
+checked_outcome task s (Ok _) = passed_outcome task s
+checked_outcome task s (Err fault) = refused (fault_line fault)
 
 -- a scenario at fault is refused, by what is read or by its checks
-abbrev pub scenario_outcome : Task → List ℕ → Result Scenario BadScenario → Outcome
-scenario_outcome task bytes (Ok s) = checked_outcome task bytes s (checked s)
-scenario_outcome task bytes (Err fault) = refused (fault_line fault)
+abbrev pub scenario_outcome : Task → Result Scenario BadScenario → Outcome
+scenario_outcome task (Ok s) = checked_outcome task s (checked s)
+scenario_outcome task (Err fault) = refused (fault_line fault)
 
 -- what was read of the file: at most 1 MiB
 abbrev pub read_outcome : Task → Result (List ℕ) Missing → Outcome
-read_outcome task (Ok bytes) = scenario_outcome task bytes (scenario_of bytes)
+read_outcome task (Ok bytes) = scenario_outcome task (scenario_of bytes)
 read_outcome task (Err missing) = refused (missing_line missing)
 
 abbrev pub file_outcome : Task → Option (List ℕ) → Outcome
 file_outcome task file = read_outcome task (whole_of 1048576 file)
-
--- a command that isn't built yet is refused before anything is read
-abbrev pub unbuilt : Outcome
-unbuilt = refused unbuilt_line
 
 -- one worker, as where none are named
 abbrev pub is_alone : Option ℕ → Bool
 is_alone None = true
 is_alone (Some n) = n == 1
 
--- the run of a file with one worker and without a trace, and the check of a file are built
+-- The run of a file with one worker and without a trace, and the check of a file are built. What isn't is refused before
+-- anything is read.
 abbrev pub command_outcome : Files → Command → Outcome
 command_outcome files (run file workers trace) = if is_alone workers && not trace then file_outcome Run (files file) else unbuilt
 command_outcome files (check file) = file_outcome Check (files file)

@@ -8,7 +8,7 @@ ghost use Rattle.entsim.specs.Outcome.{done};
 
 use ent_io::{End, Sink, Status, write_whole};
 use ent_types::Memory;
-use scenario_read::Scenario;
+use scenario_record::Scenario;
 use std::alloc::Global;
 
 /// How many types each registry has by itself.

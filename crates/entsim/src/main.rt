@@ -1,7 +1,10 @@
 //! The program `entsim`: it reads the words after its name and the files of the current folder, and writes one text.
 #![tactic(auto)]
 
+mod calls;
 mod check_line;
+#[cfg(test)]
+mod form_tests;
 mod refusal;
 mod run;
 #[cfg(test)]

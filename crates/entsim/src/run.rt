@@ -1,22 +1,23 @@
 //! The commands over a scenario: from the name of its file to what they write.
-ghost use Rattle.std.specs.Prelude.{◌≡◌, Ok, IfSome};
+ghost use Rattle.std.specs.Prelude.{◌≡◌, true, Ok, IfSome};
 ghost use Rattle.ent_io.specs.End.{Causes};
-ghost use Rattle.scenario_form.specs.Formed.{IsOfForm};
 ghost use Rattle.entsim.specs.Headline.{Gives, Obeys};
 ghost use Rattle.scenario_check.specs.Read.{IsRead};
 ghost use Rattle.scenario_check.specs.Planned.{checked};
-ghost use Rattle.scenario_form.specs.Reading.{scenario_of as form_of};
-ghost use Rattle.entsim.specs.Outcome.{checked_outcome, file_outcome, form_outcome, passed_outcome, read_outcome, run_outcome};
+ghost use Rattle.scenario_check.specs.Built.{is_built};
+ghost use Rattle.scenario_check.specs.declared.plan.Plan.{Plan};
+ghost use Rattle.scenario_record.specs.Runnable.{IsRunnable};
+ghost use Rattle.entsim.specs.Outcome.{built_outcome, checked_outcome, file_outcome, passed_outcome, read_outcome, run_outcome};
 
 use crate::check_line::print_check;
-use crate::refusal::{refuse_fault, refuse_missing};
+use crate::refusal::{refuse_fault, refuse_missing, refuse_unbuilt};
 use crate::task::Task;
 use ent_io::{End, Missing, ReadEnd, Sink, Status, Store, read_whole};
 use plain_text::write_world;
 use plain_world::run_scenario;
-use scenario_check::{check, what_is_read_can_be_checked};
-use scenario_form::read_form;
-use scenario_read::{Scenario, ScenarioFault, read_scenario};
+use scenario_check::{check, is_built, what_is_read_can_be_checked, what_passes_can_be_run};
+use scenario_read::{ScenarioFault, read_scenario};
+use scenario_record::Scenario;
 use std::alloc::Global;
 
 /// The most bytes of a scenario's file: 1 MiB. This project's own.
@@ -25,7 +26,7 @@ const MOST_BYTES: usize = 1_048_576;
 /// Runs the scenario, and writes the world after its frames.
 #[tactic(auto, unfolding(crate::specs::Outcome::run_outcome))]
 fn print_run<W: Sink>(alloc: Global, scenario: &Scenario, out: &mut W) -> Result<Status, End>
-    requires form { IsOfForm scenario.now }
+    requires { IsRunnable scenario.now }
     ensures gives { Gives (run_outcome scenario.now) result (W.text out.old) (W.text out.new) }
     ensures obeys { Obeys result }
     ensures causes { Causes result 0 0 (W.faults out.old) (W.faults out.new) }
@@ -37,33 +38,33 @@ fn print_run<W: Sink>(alloc: Global, scenario: &Scenario, out: &mut W) -> Result
     Ok(Status::Done)
 }
 
-/// Runs the scenario of the first form that the bytes are. Other forms aren't built yet.
-fn run_form<W: Sink>(alloc: Global, bytes: &[u8], out: &mut W) -> Result<Status, End>
-    ensures gives { Gives (form_outcome (form_of bytes.now)) result (W.text out.old) (W.text out.new) }
+/// Runs a scenario that passes its checks. Forms that aren't built yet are refused.
+fn run_built<W: Sink>(alloc: Global, scenario: &Scenario, out: &mut W) -> Result<Status, End>
+    requires { is_built scenario.now ≡ true → IsRunnable scenario.now }
+    ensures gives { Gives (built_outcome scenario.now) result (W.text out.old) (W.text out.new) }
     ensures obeys { Obeys result }
     ensures causes { Causes result 0 0 (W.faults out.old) (W.faults out.new) }
 {
-    match read_form(alloc, bytes) {
-        Ok(scenario) => print_run(alloc, &scenario, out),
-        Err(ScenarioFault::Bad(fault)) => refuse_fault(alloc, &fault, out),
-        Err(ScenarioFault::Memory) => Err(End::Memory),
+    if !is_built(scenario) {
+        return refuse_unbuilt(out);
     }
+    print_run(alloc, scenario, out)
 }
 
 /// Does the task with a scenario that passes its checks.
 fn do_task<W: Sink>(
     alloc: Global,
     task: Task,
-    bytes: &[u8],
     scenario: &Scenario,
     out: &mut W,
 ) -> Result<Status, End>
-    ensures gives { Gives (passed_outcome task bytes.now scenario.now) result (W.text out.old) (W.text out.new) }
+    requires { is_built scenario.now ≡ true → IsRunnable scenario.now }
+    ensures gives { Gives (passed_outcome task scenario.now) result (W.text out.old) (W.text out.new) }
     ensures obeys { Obeys result }
     ensures causes { Causes result 0 0 (W.faults out.old) (W.faults out.new) }
 {
     match task {
-        Task::Run => run_form(alloc, bytes, out),
+        Task::Run => run_built(alloc, scenario, out),
         Task::Check => print_check(alloc, scenario, out),
     }
 }
@@ -72,17 +73,17 @@ fn do_task<W: Sink>(
 fn check_first<W: Sink>(
     alloc: Global,
     task: Task,
-    bytes: &[u8],
     scenario: &Scenario,
     out: &mut W,
 ) -> Result<Status, End>
-    requires { IsRead scenario.now }
-    ensures gives { Gives (checked_outcome task bytes.now scenario.now (checked scenario.now)) result (W.text out.old) (W.text out.new) }
+    requires read { IsRead scenario.now }
+    requires runnable { (plan : Plan) → checked scenario.now ≡ Ok plan → is_built scenario.now ≡ true → IsRunnable scenario.now }
+    ensures gives { Gives (checked_outcome task scenario.now (checked scenario.now)) result (W.text out.old) (W.text out.new) }
     ensures obeys { Obeys result }
     ensures causes { Causes result 0 0 (W.faults out.old) (W.faults out.new) }
 {
     match check(alloc, scenario) {
-        Ok(_) => do_task(alloc, task, bytes, scenario, out),
+        Ok(_) => do_task(alloc, task, scenario, out),
         Err(ScenarioFault::Bad(fault)) => refuse_fault(alloc, &fault, out),
         Err(ScenarioFault::Memory) => Err(End::Memory),
     }
@@ -95,8 +96,9 @@ fn read_first<W: Sink>(alloc: Global, task: Task, bytes: &[u8], out: &mut W) -> 
     ensures causes { Causes result 0 0 (W.faults out.old) (W.faults out.new) }
 {
     what_is_read_can_be_checked();
+    what_passes_can_be_run();
     match read_scenario(alloc, bytes) {
-        Ok(scenario) => check_first(alloc, task, bytes, &scenario, out),
+        Ok(scenario) => check_first(alloc, task, &scenario, out),
         Err(ScenarioFault::Bad(fault)) => refuse_fault(alloc, &fault, out),
         Err(ScenarioFault::Memory) => Err(End::Memory),
     }

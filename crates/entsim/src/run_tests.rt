@@ -11,7 +11,28 @@ struct Run<'a> {
     last: &'a [u8],
 }
 
-const RUNS: [Run<'static>; 13] = [
+const RUNS: [Run<'static>; 15] = [
+    // A number wraps in its field.
+    Run {
+        scenario: br#"frames = 1
+type = [{ name = "P", fields = ["v:i32"] }]
+spawn = [{ count = 1, with = { P = [2147483647] } }]
+system = [{ name = "S", all = ["P"], set = ["P.v = P.v + 1"] }]
+"#,
+        last: b"world frames=1 entities=1\n0:1 P(-2147483648)\n",
+    },
+    // A system sees what the one before it wrote.
+    Run {
+        scenario: br#"frames = 2
+type = [{ name = "P", fields = ["v:i32"] }]
+spawn = [{ with = { P = [3] } }]
+system = [
+  { name = "A", all = ["P"], set = ["P.v = P.v + 1"] },
+  { name = "B", all = ["P"], set = ["P.v = P.v * 2"] },
+]
+"#,
+        last: b"world frames=2 entities=1\n0:1 P(18)\n",
+    },
     // Two spawns of equal types.
     Run {
         scenario: br#"frames = 1
@@ -196,10 +217,10 @@ fn with_types(alloc: Global, count: u32) -> Result<Vec<u8>, Fail> {
 }
 
 #[test]
-fn takes_64_types_and_no_more(rt: HostRuntime) -> Result<(), Fail> {
+fn takes_253_types_and_no_more(rt: HostRuntime) -> Result<(), Fail> {
     let cases: [(u32, &[u8]); 2] = [
-        (64, b"world frames=0 entities=0\n"),
-        (65, b"error scenario cause=NotBuilt\n"),
+        (253, b"world frames=0 entities=0\n"),
+        (254, b"error scenario cause=TooMany key=type\n"),
     ];
     for (count, line) in cases {
         let scenario = with_types(rt.alloc(), count)?;

@@ -190,25 +190,30 @@ system = [{ name = "S", all = ["P"], set = ["P.v = get(self, P.v)"] }]
         b"error scenario cause=LookupOfWritten key=system[0]\n",
     ),
     (
+        Some(
+            br#"frames = 1
+type = [{ name = "P", fields = ["v:i32"] }]
+system = [{ name = "S", all = ["P"], set = ["P.v = P.w"] }]
+"#,
+        ),
+        b"error scenario cause=UnknownName key=system[0].set[0] at=8\n",
+    ),
+    (
+        Some(
+            br#"frames = 1
+type = [{ name = "P", fields = ["v:i32"] }]
+system = [{ name = "S", all = ["P"], set = ["P.v = (((((((((((((((((((((((((((((((((((((((((((((((((((((((((((((((((1)))))))))))))))))))))))))))))))))))))))))))))))))))))))))))))))))"] }]
+"#,
+        ),
+        b"error scenario cause=TooDeep key=system[0].set[0] at=70\n",
+    ),
+    (
         Some(b"frames = 1\nsystem = [{ name = \"S\" }, { name = \"S\" }]\n"),
         b"error scenario cause=DuplicateName key=system[1].name\n",
     ),
     (
         Some(b"frames = 1\nspawn = [{ count = 1048576 }, {}]\n"),
         b"error scenario cause=TooManyEntities key=spawn[1]\n",
-    ),
-    (
-        Some(b"frames = 1\nevent = []\n"),
-        b"error scenario cause=NotBuilt\n",
-    ),
-    (
-        Some(
-            br#"frames = 1
-type = [{ name = "P", fields = ["v:i32"] }]
-system = [{ name = "S", all = ["P"], set = ["P.v = P.v * 2"] }]
-"#,
-        ),
-        b"error scenario cause=NotBuilt\n",
     ),
 ];
 
@@ -249,7 +254,16 @@ fn takes_a_file_of_one_mebibyte_and_no_more(rt: HostRuntime) -> Result<(), Fail>
 }
 
 // Scenarios that are checked, and what is written.
-const CHECKED: [(&[u8], Status, &[u8]); 4] = [
+const CHECKED: [(&[u8], Status, &[u8]); 5] = [
+    // As deep as a text may nest.
+    (
+        br#"frames = 1
+type = [{ name = "P", fields = ["v:i32"] }]
+system = [{ name = "S", all = ["P"], set = ["P.v = ((((((((((((((((((((((((((((((((((((((((((((((((((((((((((((((((1))))))))))))))))))))))))))))))))))))))))))))))))))))))))))))))))"] }]
+"#,
+        Status::Done,
+        b"ok types=1 systems=1 frames=1\n",
+    ),
     (MOVING, Status::Done, b"ok types=2 systems=1 frames=2\n"),
     (
         b"frames = 0\nevent = [{ frame = 1, do = \"create n\" }]\n",
