@@ -6,7 +6,7 @@
 #![tactic(auto)]
 
 pub use columns::{ColumnPlaces, ID_PLACE, layout};
-pub use rows::MAX_ROWS;
+pub use rows::{MAX_ROWS, capacity};
 
 mod columns;
 mod rows;

@@ -1,6 +1,6 @@
 //! The capacity rule: the greatest number of rows, up to 128, whose columns fit into a block.
 
-ghost use Rattle.std.specs.Prelude.{◌≡◌, ℕ, ◌+◌, ◌*◌, ◌≤◌, ◌<◌, ◌^◌, length, All, sum_by};
+ghost use Rattle.std.specs.Prelude.{◌≡◌, ℕ, ◌*◌, ◌≤◌, ◌^◌, nat_le, All};
 ghost use Rattle.chunk_layout.specs.Capacity.{up64, column_bytes, block_bytes, capacity_of, IsCapacity};
 
 /// The most rows that a block holds (Unity's number).
@@ -29,24 +29,31 @@ pub fn column_bytes(size: u32, rows: u32) -> u32
     up64(size * rows)
 }
 
-/// The bytes that the id column and the columns of these sizes take for a number of rows.
-fn block_bytes(sizes: &[u32], rows: u32) -> u32
-    requires few { length sizes.now ≤ 256 }
+/// Says whether the id column and the columns of these sizes fit into a block, for a number of rows.
+fn fit(sizes: &[u32], rows: u32) -> bool
     requires small { All (λ size. size ≤ 512) sizes.now }
     requires within { rows ≤ 128 }
-    ensures { result ≡ block_bytes sizes.now rows }
+    ensures { result ≡ nat_le (block_bytes sizes.now rows) 16320 }
 {
     let mut bytes = up64(8 * rows);
     for size in sizes {
         bytes += column_bytes(*size, rows);
+        if bytes > COLUMN_ROOM {
+            return false;
+        }
     }
-    bytes
+    true
 }
 
-/// The greatest number of rows, up to 128, for which the columns of these sizes fit into a block.
+/// The greatest number of rows, up to 128, for which the columns of these sizes fit into a block; 0 where not even one
+/// row fits. The sizes are those that a row takes in each column, in bytes, at most 512. Takes no memory.
+///
+/// ```text
+/// capacity(&[8, 4])  // 128
+/// capacity(&[512])   // 31
+/// ```
 pub fn capacity(sizes: &[u32]) -> u32
-    requires few { length sizes.now ≤ 256 }
-    requires small { All (λ size. size ≤ 512) sizes.now }
+    requires { All (λ size. size ≤ 512) sizes.now }
     ensures value { result ≡ capacity_of sizes.now }
     ensures meaning { IsCapacity sizes.now result }
 {
@@ -55,11 +62,26 @@ pub fn capacity(sizes: &[u32]) -> u32
     let mut limit = MAX_ROWS;
     while fitting < limit {
         let middle = limit - (limit - fitting) / 2;
-        if block_bytes(sizes, middle) <= COLUMN_ROOM {
+        if fit(sizes, middle) {
             fitting = middle;
         } else {
             limit = middle - 1;
         }
     }
     fitting
+}
+
+#[cfg(test)]
+mod tests {
+    use super::*;
+
+    // Computed by hand from the capacity rule.
+    #[test]
+    fn counts_rows(rt: HostRuntime) {
+        assert_eq!(rt; capacity(&[]), 128);
+        assert_eq!(rt; capacity(&[8, 4]), 128);
+        assert_eq!(rt; capacity(&[512]), 31);
+        assert_eq!(rt; capacity(&[512; 32]), 0);
+        assert_eq!(rt; capacity(&[0; 300]), 128);
+    }
 }

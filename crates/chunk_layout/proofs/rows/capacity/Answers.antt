@@ -1,5 +1,5 @@
-use Rattle.std.proofs.Common.{ℕ, ◌-◌, ◌/◌, ◌<◌, List, inl, inr, arith}
-use Rattle.std.proofs.lemmas.Bool.{cases_lt}
+use Rattle.std.proofs.Common.{ℕ, ◌-◌, ◌/◌, ◌<◌, List, inl, inr, sym, arith}
+use Rattle.std.proofs.lemmas.Bool.{cases_lt, leb-false}
 use Rattle.chunk_layout.specs.Capacity.{block_bytes, Fits}
 use Rattle.chunk_layout.proofs.Rounding.{block_bytes-mono}
 use Rattle.chunk_layout.proofs.CapacityLemmas.{block_bytes-zero, IsCapacity-only}
@@ -23,7 +23,7 @@ pub loop-fitting-preserved : goal.loop-fitting-preserved
 loop-fitting-preserved c =
     let l = c.loop-fitting in
     let middle : ℕ = l.limit - (l.limit - l.fitting) / 2 in
-    let full : 16320 < block_bytes c.args.sizes.now middle = omega (arith, c.block_bytes.ensures) in
+    let full : 16320 < block_bytes c.args.sizes.now middle = leb-false _ _ (sym c.if-fit.ensures) in
     record {
       ordered = omega arith;
       bounded = omega arith;
