@@ -42,7 +42,7 @@ pub obeyed_whole : (r : Result Status End) → Obeys r → EndsWhole r
 obeyed_whole (Ok Done) is = tt
 obeyed_whole (Ok BadWords) is = absurd is
 obeyed_whole (Ok Refused) is = tt
-obeyed_whole (Ok KeyShared) is = tt
+obeyed_whole (Ok KeyShared) is = absurd is
 obeyed_whole (Ok FaultOfRead) is = absurd is
 obeyed_whole (Ok FaultOfWrite) is = absurd is
 obeyed_whole (Ok NoMemory) is = absurd is
@@ -52,7 +52,7 @@ pub obeyed_status : (r : Result Status End) → Obeys r → OfCommand (status_af
 obeyed_status (Ok Done) is = tt
 obeyed_status (Ok BadWords) is = absurd is
 obeyed_status (Ok Refused) is = tt
-obeyed_status (Ok KeyShared) is = tt
+obeyed_status (Ok KeyShared) is = absurd is
 obeyed_status (Ok FaultOfRead) is = tt
 obeyed_status (Ok FaultOfWrite) is = tt
 obeyed_status (Ok NoMemory) is = tt

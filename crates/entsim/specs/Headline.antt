@@ -43,12 +43,12 @@ OfBadWords ReadFault = Unit {0}
 OfBadWords WriteFault = Unit {0}
 OfBadWords Memory = Unit {0}
 
--- what comes of a command
+-- what comes of a command: no form that is run has keys that could be shared
 abbrev pub OfCommand : Status → Type 0
 OfCommand Done = Unit {0}
 OfCommand BadWords = ⊥
 OfCommand Refused = Unit {0}
-OfCommand KeyShared = Unit {0}
+OfCommand KeyShared = ⊥
 OfCommand ReadFault = Unit {0}
 OfCommand WriteFault = Unit {0}
 OfCommand Memory = Unit {0}
@@ -72,12 +72,13 @@ abbrev pub EndsWhole : Result Status End → Type 0
 EndsWhole (Ok status) = IsWhole status
 EndsWhole (Err end) = Unit {0}
 
--- a command that ends well isn't refused by its words, and its text is whole
+-- A command that ends well isn't refused by its words, and its text is whole. No form that is run has keys that could be
+-- shared.
 abbrev pub IsObeyed : Status → Type 0
 IsObeyed Done = Unit {0}
 IsObeyed BadWords = ⊥
 IsObeyed Refused = Unit {0}
-IsObeyed KeyShared = Unit {0}
+IsObeyed KeyShared = ⊥
 IsObeyed ReadFault = ⊥
 IsObeyed WriteFault = ⊥
 IsObeyed Memory = ⊥

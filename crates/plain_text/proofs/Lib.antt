@@ -1,3 +1,2 @@
 pub mod LineText
-pub mod Placing
 pub mod Worlds

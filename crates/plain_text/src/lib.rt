@@ -2,7 +2,6 @@
 #![tactic(auto)]
 
 mod line;
-mod places;
 mod world;
 
 pub use world::write_world;

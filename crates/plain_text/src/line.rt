@@ -150,13 +150,13 @@ pub(crate) fn push_row(
 }
 
 /// Appends the line before the rows.
-pub(crate) fn push_head(line: &mut Vec<u8>, frames: u32, entities: usize) -> Result<(), AllocError>
+pub(crate) fn push_head(line: &mut Vec<u8>, frames: u32, entities: u32) -> Result<(), AllocError>
     ensures { OnOk result (line.new.items ≡ line.old.items ++ world_line frames entities) }
 {
     line.extend_from_slice(b"world frames=")?;
     push_count(line, frames as usize)?;
     line.extend_from_slice(b" entities=")?;
-    push_count(line, entities)?;
+    push_count(line, entities as usize)?;
     line.push(b'\n')?;
     Ok(())
 }

@@ -1,13 +1,16 @@
 //! Worlds that are written to a sink in memory.
-ghost use Rattle.std.specs.Prelude.{◌≡◌, length, map, IfOk};
-ghost use Rattle.plain_world.specs.Plain.{AreLong, AreEven, IsEvenBlock};
+ghost use Rattle.std.specs.Prelude.{◌≡◌, length, IfOk};
+ghost use Rattle.plain_world.specs.Plain.{IsEvenBlock};
 
+use crate::world::write_row;
 use crate::write_world;
 use ent_io::{MemorySink, TextEnd};
 use ent_types::{
-    Entity, FieldInfo, FieldKind, Kind, Name, Registry, Sequence, TypeId, TypeInfo, Value,
+    Entity, FieldInfo, FieldKind, Kind, Name, Registry, Sequence, TypeId, TypeInfo, TypeSet, Value,
 };
-use plain_world::{PlainBlock, PlainWorld, TypeColumns};
+use expr_trees::{Expr, PartExpr, ValueExpr};
+use plain_world::{PlainBlock, TypeColumns, is_runnable, spawn_all};
+use scenario_record::{Scenario, SpawnEntry};
 use std::alloc::{AllocError, Global};
 use std::test::Fail;
 
@@ -53,7 +56,7 @@ fn declare(
 /// A registry with Position(x, y), Velocity(x, y), the tag Frozen and Link(to), whose field is a reference.
 fn registry(alloc: Global) -> Result<Registry, Fail> {
     let mut registry = Registry::new(alloc)?;
-    let number = FieldKind::I32;
+    let number = FieldKind::I64;
     declare(alloc, &mut registry, b"Position", &[b"x", b"y"], number)?;
     declare(alloc, &mut registry, b"Velocity", &[b"x", b"y"], number)?;
     declare(alloc, &mut registry, b"Frozen", &[], number)?;
@@ -61,103 +64,65 @@ fn registry(alloc: Global) -> Result<Registry, Fail> {
     Ok(registry)
 }
 
-/// A column of numbers.
-fn ints(alloc: Global, numbers: &[i64]) -> Result<Vec<Value>, AllocError>
-    ensures { IfOk result (λ v. length v.items ≡ length numbers.now) }
-{
-    let mut values = Vec::with_capacity(alloc, numbers.len())?;
+/// A part with these numbers.
+fn part(alloc: Global, ty: TypeId, numbers: &[i64]) -> Result<PartExpr, Fail> {
+    let mut values = Sequence::new(alloc);
     for number in numbers {
-        values.push(Value::Int(*number))?;
+        values.push(ValueExpr::Int(Expr::Number(*number)))?;
     }
-    Ok(values)
+    Ok(PartExpr { ty, values })
 }
 
-/// A type with two fields, a column of numbers for each.
-fn pair(alloc: Global, ty: TypeId, xs: &[i64], ys: &[i64]) -> Result<TypeColumns, AllocError>
-    requires { length xs.now ≡ length ys.now }
-    ensures { IfOk result (λ p. AreLong (map (λ c. c.items) p.fields.items) (length xs.now)) }
-{
-    Ok(TypeColumns {
-        ty,
-        mark: 1,
-        fields: vec![in alloc; ints(alloc, xs)?, ints(alloc, ys)?]?,
-    })
+/// So many rows with these parts.
+fn rows(count: u32, parts: Vec<PartExpr>) -> SpawnEntry {
+    SpawnEntry {
+        count,
+        parts: Sequence::from_vec(parts),
+        disabled: TypeSet::empty(),
+    }
 }
 
-/// Rows with a position alone.
-fn standing(
-    alloc: Global,
-    entities: &[u32],
-    xs: &[i64],
-    ys: &[i64],
-) -> Result<PlainBlock, AllocError>
-    requires xs { length xs.now ≡ length entities.now }
-    requires ys { length ys.now ≡ length entities.now }
-    ensures { IfOk result (λ b. IsEvenBlock b) }
-{
-    Ok(PlainBlock {
-        parts: vec![in alloc; pair(alloc, POSITION, xs, ys)?]?,
-        entities: entities.to_vec(alloc)?,
-        order: 1,
-    })
+/// A row with a position alone.
+fn standing(alloc: Global, x: i64, y: i64) -> Result<SpawnEntry, Fail> {
+    let position = part(alloc, POSITION, &[x, y])?;
+    Ok(rows(1, vec![in alloc; position]?))
 }
 
 /// A row at (2, 4) with the velocity (1, 2).
-fn moving(alloc: Global, index: u32) -> Result<PlainBlock, AllocError>
-    ensures { IfOk result (λ b. IsEvenBlock b) }
-{
-    let position = pair(alloc, POSITION, &[2], &[4])?;
-    let velocity = pair(alloc, VELOCITY, &[1], &[2])?;
-    Ok(PlainBlock {
-        parts: vec![in alloc; position, velocity]?,
-        entities: vec![in alloc; index]?,
-        order: 1,
+fn moving(alloc: Global) -> Result<SpawnEntry, Fail> {
+    let position = part(alloc, POSITION, &[2, 4])?;
+    let velocity = part(alloc, VELOCITY, &[1, 2])?;
+    Ok(rows(1, vec![in alloc; velocity, position]?))
+}
+
+/// The scenario of these spawns, which has no frame.
+fn scenario(alloc: Global, spawns: Vec<SpawnEntry>) -> Result<Scenario, Fail> {
+    Ok(Scenario {
+        frames: 0,
+        first_system_version: 1,
+        first_entity_version: 1,
+        registry: registry(alloc)?,
+        spawn: Sequence::from_vec(spawns),
+        group: Sequence::new(alloc),
+        system: Sequence::new(alloc),
+        event: Sequence::new(alloc),
+        placed: false,
+        unbuilt: false,
     })
 }
 
-/// Rows without a type.
-fn bare(alloc: Global, entities: &[u32]) -> Result<PlainBlock, AllocError>
-    ensures { IfOk result (λ b. IsEvenBlock b) }
-{
-    Ok(PlainBlock {
-        parts: Vec::new(alloc),
-        entities: entities.to_vec(alloc)?,
-        order: 1,
-    })
-}
-
-/// Rows with a tag.
-fn frozen(alloc: Global, entities: &[u32]) -> Result<PlainBlock, AllocError>
-    ensures { IfOk result (λ b. IsEvenBlock b) }
-{
-    let tag = TypeColumns {
-        ty: FROZEN,
-        mark: 1,
-        fields: Vec::new(alloc),
-    };
-    Ok(PlainBlock {
-        parts: vec![in alloc; tag]?,
-        entities: entities.to_vec(alloc)?,
-        order: 1,
-    })
-}
-
-/// What is written of a world, and how it ends.
+/// What is written of the world after these spawns, and how it ends.
 fn written(
     alloc: Global,
-    blocks: Vec<PlainBlock>,
-    made: u32,
+    spawns: Vec<SpawnEntry>,
     mut out: MemorySink,
-) -> Result<(Result<(), TextEnd>, MemorySink), Fail>
-    requires { AreEven blocks.items }
-{
-    let world = PlainWorld {
-        blocks,
-        places: Vec::new(alloc),
-        made,
-        moment: 5,
-    };
-    let end = write_world(alloc, &registry(alloc)?, 2, &world, &mut out);
+) -> Result<(Result<(), TextEnd>, MemorySink), Fail> {
+    let scenario = scenario(alloc, spawns)?;
+    if !is_runnable(&scenario) {
+        return Err("not to be run".into());
+    }
+    let world = spawn_all(alloc, &scenario)?;
+    let end = write_world(alloc, &scenario.registry, 2, &world, &mut out);
     Ok((end, out))
 }
 
@@ -168,17 +133,18 @@ fn sink(alloc: Global) -> MemorySink {
 #[test]
 fn one_row(rt: HostRuntime) -> Result<(), Fail> {
     let alloc = rt.alloc();
-    let blocks = vec![in alloc; moving(alloc, 0)?]?;
-    let (end, out) = written(alloc, blocks, 1, sink(alloc))?;
+    let spawns = vec![in alloc; moving(alloc)?]?;
+    let (end, out) = written(alloc, spawns, sink(alloc))?;
     assert_eq!(rt; end, Ok(()));
     let text = b"world frames=2 entities=1\n0:1 Position(2,4) Velocity(1,2)\n";
     assert_eq!(rt; out.text(), text.as_slice());
     Ok(())
 }
 
-/// The row of index 0 with a reference.
+/// A row with a reference.
 fn linked(alloc: Global, to: Entity) -> Result<PlainBlock, AllocError>
-    ensures { IfOk result (λ b. IsEvenBlock b) }
+    ensures even { IfOk result (λ b. IsEvenBlock b) }
+    ensures one { IfOk result (λ b. length b.entities.items ≡ 1) }
 {
     let link = TypeColumns {
         ty: LINK,
@@ -200,46 +166,38 @@ fn references(rt: HostRuntime) -> Result<(), Fail> {
         version: 4_294_967_295,
     };
     for (to, text) in [
-        (
-            Entity::NULL,
-            b"world frames=2 entities=1\n0:1 Link(null)\n".as_slice(),
-        ),
-        (
-            other,
-            b"world frames=2 entities=1\n0:1 Link(0:4294967295)\n",
-        ),
+        (Entity::NULL, b"7:1 Link(null)\n".as_slice()),
+        (other, b"7:1 Link(0:4294967295)\n"),
     ] {
-        let blocks = vec![in alloc; linked(alloc, to)?]?;
-        let (end, out) = written(alloc, blocks, 1, sink(alloc))?;
+        let block = linked(alloc, to)?;
+        let mut line = Vec::new(alloc);
+        let mut out = sink(alloc);
+        let end = write_row(&registry(alloc)?, &block, 0, 7, &mut line, &mut out);
         assert_eq!(rt; end, Ok(()));
         assert_eq!(rt; out.text(), text);
     }
     Ok(())
 }
 
+// The third row enters the first block, behind the first row.
 #[test]
 fn rows_by_index(rt: HostRuntime) -> Result<(), Fail> {
     let alloc = rt.alloc();
-    let standing = standing(alloc, &[11, 0], &[-1, i64::MIN], &[7, i64::MAX])?;
-    let blocks = vec![in alloc; standing, moving(alloc, 1)?]?;
-    let (end, out) = written(alloc, blocks, 12, sink(alloc))?;
+    let frozen = vec![in alloc; part(alloc, FROZEN, &[])?]?;
+    let spawns = vec![in alloc;
+        standing(alloc, i64::MIN, i64::MAX)?,
+        moving(alloc)?,
+        standing(alloc, -1, 7)?,
+        rows(1, frozen),
+    ]?;
+    let (end, out) = written(alloc, spawns, sink(alloc))?;
     assert_eq!(rt; end, Ok(()));
-    let text = b"world frames=2 entities=3
+    let text = b"world frames=2 entities=4
 0:1 Position(-9223372036854775808,9223372036854775807)
 1:1 Position(2,4) Velocity(1,2)
-11:1 Position(-1,7)
+2:1 Position(-1,7)
+3:1 Frozen
 ";
-    assert_eq!(rt; out.text(), text.as_slice());
-    Ok(())
-}
-
-#[test]
-fn the_first_row_of_an_index(rt: HostRuntime) -> Result<(), Fail> {
-    let alloc = rt.alloc();
-    let blocks = vec![in alloc; bare(alloc, &[1])?, frozen(alloc, &[0, 1, 5])?]?;
-    let (end, out) = written(alloc, blocks, 3, sink(alloc))?;
-    assert_eq!(rt; end, Ok(()));
-    let text = b"world frames=2 entities=4\n0:1 Frozen\n1:1\n";
     assert_eq!(rt; out.text(), text.as_slice());
     Ok(())
 }
@@ -247,7 +205,7 @@ fn the_first_row_of_an_index(rt: HostRuntime) -> Result<(), Fail> {
 #[test]
 fn no_row(rt: HostRuntime) -> Result<(), Fail> {
     let alloc = rt.alloc();
-    let (end, out) = written(alloc, Vec::new(alloc), 0, sink(alloc))?;
+    let (end, out) = written(alloc, Vec::new(alloc), sink(alloc))?;
     assert_eq!(rt; end, Ok(()));
     assert_eq!(rt; out.text(), b"world frames=2 entities=0\n".as_slice());
     Ok(())
@@ -268,8 +226,8 @@ fn a_sink_that_fails(rt: HostRuntime) -> Result<(), Fail> {
         } else {
             MemorySink::new(alloc, failing)
         };
-        let blocks = vec![in alloc; bare(alloc, &[1, 0])?]?;
-        let (end, out) = written(alloc, blocks, 2, out)?;
+        let spawns = vec![in alloc; rows(2, Vec::new(alloc))]?;
+        let (end, out) = written(alloc, spawns, out)?;
         assert_eq!(rt; end, Err(TextEnd::WriteFault));
         assert_eq!(rt; out.text(), text);
     }

@@ -1,32 +1,21 @@
 //! The lines of the world after a run.
-ghost use Rattle.std.specs.Prelude.{◌≡◌, ◌<◌, ◌++◌, length, map, sum_by, IfOk};
+ghost use Rattle.std.specs.Prelude.{◌≡◌, ◌<◌, length, Some};
 ghost use Rattle.std.specs.List.{flat_map, range_with_len};
 ghost use Rattle.ent_io.specs.End.{TextCauses};
 ghost use Rattle.ent_io.specs.Text.{Writes};
-ghost use Rattle.plain_world.specs.Plain.{block_of, world_of, parts_of, row_at, AreEven, IsEvenBlock};
+ghost use Rattle.plain_world.specs.Plain.{world_of, parts_of, row_at, AreEven, IsEvenBlock};
+ghost use Rattle.plain_world.specs.Placed.{IsPlaced, TellPlaces, entities_in, first_place};
 ghost use Rattle.plain_text.specs.Lines.{row_line, world_text, world_line};
-ghost use Rattle.plain_text.specs.Places.{Tells, TellEach, all_rows, line_at};
+ghost use Rattle.plain_text.specs.ByIndex.{line_at};
 
 use crate::line::{push_head, push_row};
-use crate::places::places_of;
 use ent_io::{Sink, TextEnd, write_whole};
 use ent_types::Registry;
 use plain_world::{Place, PlainBlock, PlainWorld};
-use std::alloc::{AllocError, Global};
-
-/// The number of rows. More rows than a `usize` counts are more than memory holds.
-fn count_rows(blocks: &[PlainBlock]) -> Result<usize, AllocError>
-    ensures { IfOk result (λ rows. rows ≡ sum_by (λ b. length b.rows) (map block_of blocks.now)) }
-{
-    let mut rows: usize = 0;
-    for block in blocks {
-        rows = rows.checked_add(block.entities.len()).ok_or(AllocError)?;
-    }
-    Ok(rows)
-}
+use std::alloc::Global;
 
 /// Writes the line of a row, whose entity has this index. `line` is a buffer.
-fn write_row<W: Sink>(
+pub(crate) fn write_row<W: Sink>(
     registry: &Registry,
     block: &PlainBlock,
     row: usize,
@@ -45,23 +34,20 @@ fn write_row<W: Sink>(
     Ok(())
 }
 
-/// Writes the line of the row with this index, which is at the place; nothing where there is none.
+/// Writes the line of the row with this index, which is at the place.
 fn write_index<W: Sink>(
     registry: &Registry,
     blocks: &[PlainBlock],
     index: usize,
-    place: Option<Place>,
+    place: Place,
     line: &mut Vec<u8>,
     out: &mut W,
 ) -> Result<(), TextEnd>
     requires even { AreEven blocks.now }
-    requires told { Tells blocks.now (all_rows blocks.now) index place }
+    requires place { first_place index 0 (entities_in blocks.now) ≡ Some place }
     ensures text { Writes result (line_at registry.now blocks.now index) (W.text out.old) (W.text out.new) }
     ensures causes { TextCauses result (W.faults out.old) (W.faults out.new) }
 {
-    let Some(place) = place else {
-        return Ok(());
-    };
     let block = &blocks[place.block as usize];
     write_row(registry, block, place.row as usize, index, line, out)
 }
@@ -70,12 +56,12 @@ fn write_index<W: Sink>(
 fn write_rows<W: Sink>(
     registry: &Registry,
     blocks: &[PlainBlock],
-    places: &[Option<Place>],
+    places: &[Place],
     line: &mut Vec<u8>,
     out: &mut W,
 ) -> Result<(), TextEnd>
     requires even { AreEven blocks.now }
-    requires told { TellEach blocks.now (all_rows blocks.now) places.now }
+    requires told { TellPlaces (entities_in blocks.now) places.now }
     ensures text { Writes result (flat_map (line_at registry.now blocks.now) (range_with_len 0 (length places.now))) (W.text out.old) (W.text out.new) }
     ensures causes { TextCauses result (W.faults out.old) (W.faults out.new) }
 {
@@ -88,7 +74,7 @@ fn write_rows<W: Sink>(
 /// Writes the line before the rows. `line` is a buffer.
 fn write_head<W: Sink>(
     frames: u32,
-    entities: usize,
+    entities: u32,
     line: &mut Vec<u8>,
     out: &mut W,
 ) -> Result<(), TextEnd>
@@ -112,13 +98,17 @@ pub fn write_world<W: Sink>(
     out: &mut W,
 ) -> Result<(), TextEnd>
     requires even { AreEven world.now.blocks.items }
+    requires placed { IsPlaced world.now }
     ensures text { Writes result (world_text registry.now frames (world_of world.now)) (W.text out.old) (W.text out.new) }
     ensures causes { TextCauses result (W.faults out.old) (W.faults out.new) }
 {
-    let blocks = world.blocks.as_slice();
-    let entities = count_rows(blocks)?;
-    let places = places_of(alloc, blocks, world.made)?;
     let mut line = Vec::new(alloc);
-    write_head(frames, entities, &mut line, out)?;
-    write_rows(registry, blocks, &places, &mut line, out)
+    write_head(frames, world.made, &mut line, out)?;
+    write_rows(
+        registry,
+        world.blocks.as_slice(),
+        world.places.as_slice(),
+        &mut line,
+        out,
+    )
 }

@@ -1,4 +1,5 @@
 pub mod Columns
+pub mod Noting
 pub mod Assigns
 pub mod Visits
 pub mod Evens
@@ -9,6 +10,7 @@ pub mod Rooms
 pub mod Wides
 pub mod MayRead
 pub mod Placings
+pub mod Found
 pub mod Lookups
 pub mod Passes
 pub mod ByPlace

@@ -1,5 +1,5 @@
 -- The rows that are found by their places are those that are found among all rows of the world.
-use Rattle.std.proofs.Common.{ℕ, zero, suc, ◌≡◌, ◌+◌, ◌&&◌, inl, inr, Bool, true, false, List, [], ◌∷◌, map, cond, nat_eq, slice_get, find, Option, None, Some, option_map, refl, sym, ap, ◌∙◌, arith}
+use Rattle.std.proofs.Common.{ℕ, zero, suc, ◌≡◌, ◌+◌, ◌&&◌, inl, inr, Bool, true, false, List, [], ◌∷◌, ◌++◌, map, cond, nat_eq, slice_get, find, Option, None, Some, option_map, refl, sym, ap, ◌∙◌, arith}
 use Rattle.std.specs.Prelude.{option_and_then, is_some}
 use Rattle.std.specs.Option.{option_or}
 use Rattle.std.proofs.lemmas.Bool.Decides.{eqb_tells}
@@ -12,13 +12,18 @@ use Rattle.plain_world.specs.declared.block.PlainBlock.{PlainBlock}
 use Rattle.plain_world.specs.declared.block.Place.{Place}
 use Rattle.plain_world.specs.Seen.{seen_rows}
 use Rattle.plain_world.specs.Plain.{Part, parts_of, row_at, rows_from, block_of}
-use Rattle.plain_world.specs.Placed.{place_in, first_place, entities_in, TellPlaces, row_there, parts_there, placed_rows}
+use Rattle.plain_world.specs.Placed.{first_place, entities_in, TellPlaces, row_there, placed_rows}
+use Rattle.plain_world.proofs.Found.{rows_in, row_found}
 
 abbrev pub alone : Row → SeenRow
 alone r = record { row = r; shared = [] }
 
 abbrev is_it : Entity → SeenRow → Bool
 is_it e seen = same_entity seen.row.entity e
+
+and-true : (b : Bool) → (b && true) ≡ b
+and-true true = refl
+and-true false = refl
 
 and-false : (b : Bool) → (b && false) ≡ false
 and-false true = refl
@@ -73,45 +78,12 @@ module _ (blocks : List PlainBlock) where
         ∙ placed_found i (n + 1) j ps (omega (arith, at))
   ]
 
-  block_found : (i m : ℕ) (b : PlainBlock) → slice_get blocks m ≡ Some b → (k : ℕ) (es : List ℕ)
-      → find (is_it (first_of i)) (map alone (rows_from (parts_of b.parts.items) k es)) ≡ option_map (there i) (place_in i m k es)
-  block_found i m b stands k [] = refl
-  block_found i m b stands k (e ∷ es) = elim (eqb_tells e i) [
-    | inl same ↦
-        by_test true (alone (row_at (parts_of b.parts.items) k e)) (find (is_it (first_of i)) (map alone (rows_from (parts_of b.parts.items) (k + 1) es))) (nat_eq e i) same.0
-        ∙ (ap (λ n. Some (alone (row_at (parts_of b.parts.items) k n))) same.1
-        ∙ (ap (λ o. Some (alone (row_at (parts_there o) k i))) (sym stands)
-        ∙ sym (ap (λ t. option_map (there i) (cond t (Some (record { block = m; row = k })) (place_in i m (k + 1) es))) same.0)))
-    | inr apart ↦
-        by_test false (alone (row_at (parts_of b.parts.items) k e)) (find (is_it (first_of i)) (map alone (rows_from (parts_of b.parts.items) (k + 1) es))) (nat_eq e i) apart.0
-        ∙ (block_found i m b stands (k + 1) es
-        ∙ sym (ap (λ t. option_map (there i) (cond t (Some (record { block = m; row = k })) (place_in i m (k + 1) es))) apart.0))
-  ]
+  seen_all : (bs : List PlainBlock) → seen_rows (map block_of bs) ≡ rows_in alone bs
+  seen_all [] = refl
+  seen_all (b ∷ bs) = ap (λ (l : List SeenRow). map alone (rows_from (parts_of b.parts.items) 0 b.entities.items) ++ l) (seen_all bs)
 
-  map-or : (f : Place → SeenRow) (x y : Option Place) → option_or (option_map f x) (option_map f y) ≡ option_map f (option_or x y)
-  map-or f None y = refl
-  map-or f (Some p) y = refl
-
-  all_found : (i m : ℕ) (bs : List PlainBlock) → ((k : ℕ) → slice_get blocks (m + k) ≡ slice_get bs k)
-      → row_of (seen_rows (map block_of bs)) (first_of i) ≡ option_map (there i) (first_place i m (entities_in bs))
-  all_found i m [] stand = refl
-  all_found i m (b ∷ bs) stand =
-      find-append (is_it (first_of i)) (map alone (rows_from (parts_of b.parts.items) 0 b.entities.items)) (seen_rows (map block_of bs))
-      ∙ (ap (λ o. option_or o (row_of (seen_rows (map block_of bs)) (first_of i))) (block_found i m b stands 0 b.entities.items)
-      ∙ (ap (option_or (option_map (there i) (place_in i m 0 b.entities.items))) (all_found i (m + 1) bs rest)
-      ∙ map-or (there i) (place_in i m 0 b.entities.items) (first_place i (m + 1) (entities_in bs))))
-    where
-      start : m ≡ m + 0
-      start = omega arith
-
-      stands : slice_get blocks m ≡ Some b
-      stands = ap (slice_get blocks) start ∙ stand 0
-
-      next : (k : ℕ) → (m + 1) + k ≡ m + suc k
-      next k = omega arith
-
-      rest : (k : ℕ) → slice_get blocks ((m + 1) + k) ≡ slice_get bs k
-      rest k = ap (slice_get blocks) (next k) ∙ stand (suc k)
+  all_found : (i : ℕ) → row_of (seen_rows (map block_of blocks)) (first_of i) ≡ option_map (there i) (first_place i 0 (entities_in blocks))
+  all_found i = ap (find (is_it (first_of i))) (seen_all blocks) ∙ row_found alone (is_it (first_of i)) i (λ parts k e. and-true (nat_eq e i)) blocks
 
   module _ (places : List Place) (told : TellPlaces (entities_in blocks) places) where
     from : (k : ℕ) → 0 + k ≡ k
@@ -120,7 +92,7 @@ module _ (blocks : List PlainBlock) where
     same_first : (i : ℕ) → row_of (placed_rows blocks 0 places) (first_of i) ≡ row_of (seen_rows (map block_of blocks)) (first_of i)
     same_first i =
         placed_found i 0 i places (sym (from i))
-        ∙ (ap (option_map (there i)) (sym (told i)) ∙ sym (all_found i 0 blocks (λ k. ap (slice_get blocks) (from k))))
+        ∙ (ap (option_map (there i)) (sym (told i)) ∙ sym (all_found i))
 
     pub same_rows : (e : Entity) → row_of (placed_rows blocks 0 places) e ≡ row_of (seen_rows (map block_of blocks)) e
     same_rows e = elim (eqb_tells 1 e.version) [

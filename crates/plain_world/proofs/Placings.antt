@@ -3,11 +3,14 @@ use Rattle.std.proofs.Common.{ℕ, zero, suc, ◌≡◌, ◌+◌, ◌<◌, ◌�
 use Rattle.std.specs.Option.{option_or}
 use Rattle.std.proofs.lemmas.Bool.Decides.{eqb_tells}
 use Rattle.std.proofs.Math.Dec.{eqb-zero-suc, eqb-suc-zero, eqb-suc-suc}
+use Rattle.std.specs.List.{sum_by}
+use Rattle.std.proofs.lemmas.List.{length_push}
+use Rattle.std.proofs.lemmas.List.Sums.{sum_by-cons}
 use Rattle.std.proofs.lemmas.Option.{slice_get_past}
 use Rattle.std.proofs.Math.ListN.{set}
 use Rattle.plain_world.specs.declared.block.Place.{Place}
 use Rattle.plain_world.specs.declared.block.PlainBlock.{PlainBlock}
-use Rattle.plain_world.specs.Placed.{entities_in, place_in, first_place, with_entity, next_place, TellPlaces}
+use Rattle.plain_world.specs.Placed.{entities_in, place_in, first_place, with_entity, next_place, TellPlaces, AreFilled}
 
 -- ---- the places with one more
 
@@ -124,3 +127,33 @@ pub entities-push : (e : ℕ) (bs : List PlainBlock) (i : ℕ) (b : PlainBlock) 
 entities-push e [] i b past one = ap (λ (es : List ℕ). es ∷ []) one
 entities-push e (c ∷ cs) zero b past one = absurd (omega arith)
 entities-push e (c ∷ cs) (suc i) b past one = ap (λ (r : List (List ℕ)). c.entities.items ∷ r) (entities-push e cs i b (omega arith) one)
+
+-- ---- how many there are
+
+pub rows_more : (e block : ℕ) (entities : List (List ℕ)) → sum_by length (with_entity e block entities) ≡ sum_by length entities + 1
+rows_more e block [] = refl
+rows_more e zero (es ∷ rest) = omega (arith, sum_by-cons length es rest, sum_by-cons length (es ++ e ∷ []) rest, length_push es e)
+rows_more e (suc block) (es ∷ rest) =
+    omega (arith, sum_by-cons length es rest, sum_by-cons length es (with_entity e block rest), rows_more e block rest)
+
+pub filled_more : (e block : ℕ) (entities : List (List ℕ)) → AreFilled entities → AreFilled (with_entity e block entities)
+filled_more e block [] filled = (omega arith, tt)
+filled_more e zero (es ∷ rest) filled = (omega (arith, length_push es e), filled.1)
+filled_more e (suc block) (es ∷ rest) filled = (filled.0, filled_more e block rest filled.1)
+
+-- no more blocks than rows
+pub few_blocks : (entities : List (List ℕ)) → AreFilled entities → length entities ≤ sum_by length entities
+few_blocks [] filled = omega arith
+few_blocks (es ∷ rest) filled = omega (arith, filled.0, sum_by-cons length es rest, few_blocks rest filled.1)
+
+-- a block has no more rows than all of them
+pub few_rows : (entities : List (List ℕ)) (block : ℕ) → length (get_or entities block []) ≤ sum_by length entities
+few_rows [] block = omega arith
+few_rows (es ∷ rest) zero = omega (arith, sum_by-cons length es rest)
+few_rows (es ∷ rest) (suc block) = omega (arith, sum_by-cons length es rest, few_rows rest block)
+
+pub rows_within : (bs : List PlainBlock) (i : ℕ) (b : PlainBlock) → i < length bs → length (get_or bs i b).entities.items ≤ sum_by length (entities_in bs)
+rows_within [] i b within = absurd (omega arith)
+rows_within (c ∷ cs) zero b within = omega (arith, sum_by-cons length c.entities.items (entities_in cs))
+rows_within (c ∷ cs) (suc i) b within =
+    omega (arith, sum_by-cons length c.entities.items (entities_in cs), rows_within cs i b (omega arith))

@@ -1,5 +1,5 @@
 -- What a system's run writes into the columns of a block.
-use Rattle.std.specs.Prelude.{ℕ, ℤ, pos, ◌≡◌, ◌<◌, ◌&&◌, nat_eq, if◌then◌else◌, map, option_map, unwrap_or, fold, List, [], ◌∷◌, length, slice_index_or, Option, None, Some, Vec}
+use Rattle.std.specs.Prelude.{ℕ, ℤ, pos, Bool, ◌≡◌, ◌<◌, ◌&&◌, nat_eq, if◌then◌else◌, map, option_map, unwrap_or, fold, List, [], ◌∷◌, length, slice_index_or, Option, None, Some, Vec}
 use Rattle.std.specs.declared.alloc.Global.{Global}
 use Rattle.ent_types.specs.declared.type_info.TypeInfo.{TypeInfo}
 use Rattle.ent_types.specs.declared.value.Value.{Value}
@@ -19,10 +19,14 @@ use Rattle.plain_world.specs.Plain.{Part, parts_of, row_at, rows_from, value_at,
 abbrev pub with_written : List NewColumn → List Part → List Part
 with_written columns parts = fold (λ ps c. with_column c.ty.0 c.field c.values.items ps) parts columns
 
+-- whether a column that was written is one of this field
+abbrev pub is_of_field : ℕ → ℕ → NewColumn → Bool
+is_of_field t field c = nat_eq c.ty.0 t && nat_eq c.field field
+
 -- the column of a field, where it may have been written since: a field that isn't there can't be
 abbrev pub written_over : ℕ → ℕ → NewColumn → Option (List Value) → Option (List Value)
 written_over t field c None = None
-written_over t field c (Some values) = Some (if nat_eq c.ty.0 t && nat_eq c.field field then c.values.items else values)
+written_over t field c (Some values) = Some (if is_of_field t field c then c.values.items else values)
 
 -- a column of n rows with these values
 pub record Holds (column : List Value) (n : ℕ) (f : ℕ → Value) : Type 0 where

@@ -1,5 +1,5 @@
 -- Where the row of each index is.
-use Rattle.std.specs.Prelude.{ℕ, zero, suc, ◌≡◌, ◌+◌, ◌++◌, if◌then◌else◌, nat_eq, List, [], ◌∷◌, length, map, slice_get, slice_index_or, Option, None, Some}
+use Rattle.std.specs.Prelude.{ℕ, zero, suc, ◌≡◌, ◌≤◌, ◌+◌, ◌++◌, if◌then◌else◌, nat_eq, List, [], ◌∷◌, length, map, slice_get, slice_index_or, Option, None, Some, sum_by}
 use Rattle.std.specs.Option.{option_or}
 use Rattle.ent_types.specs.declared.entity.Entity.{Entity}
 use Rattle.world_model.specs.Row.{Row}
@@ -28,10 +28,18 @@ first_place index block (es ∷ rest) = option_or (place_in index block 0 es) (f
 abbrev pub TellPlaces : List (List ℕ) → List Place → Type 0
 TellPlaces entities places = (index : ℕ) → first_place index 0 entities ≡ slice_get places index
 
--- a world whose places tell where its rows are, one for each entity that was made
+-- no block is empty
+abbrev pub AreFilled : List (List ℕ) → Type 0
+AreFilled [] = Unit {0}
+AreFilled (es ∷ rest) = (1 ≤ length es) × AreFilled rest
+
+-- A world whose places tell where its rows are, one for each entity that was made. So it has as many rows, and no more
+-- blocks than that.
 pub record IsPlaced (w : PlainWorld) : Type 0 where
   pub told : TellPlaces (entities_in w.blocks.items) w.places.items
   pub count : length w.places.items ≡ w.made
+  pub rows : sum_by length (entities_in w.blocks.items) ≡ w.made
+  pub filled : AreFilled (entities_in w.blocks.items)
 
 -- ---- one row more
 

@@ -87,18 +87,16 @@ fn rows_at(blocks: &[PlainBlock], block: usize) -> usize
     blocks[block].entities.len()
 }
 
-/// The place in the block of the row that enters next. A block or a row without a number of 32 bits also is want of
-/// memory.
-fn place_in(blocks: &[PlainBlock], block: usize) -> Result<Place, Memory>
-    ensures { IfOk result (λ p. p ≡ next_place block (entities_in blocks.now)) }
+/// The place in the block of the row that enters next.
+fn place_in(blocks: &[PlainBlock], block: usize) -> Place
+    requires block { block < 2 ^ 32 }
+    requires row { length (slice_index_or (entities_in blocks.now) block []) < 2 ^ 32 }
+    ensures { result ≡ next_place block (entities_in blocks.now) }
 {
-    let Ok(row) = u32::try_from(rows_at(blocks, block)) else {
-        return Err(Memory);
-    };
-    let Ok(block) = u32::try_from(block) else {
-        return Err(Memory);
-    };
-    Ok(Place { block, row })
+    Place {
+        block: block as u32,
+        row: rows_at(blocks, block) as u32,
+    }
 }
 
 /// The row of a new entity enters the block at the place, which is the first that has room, or becomes a new last one.
@@ -158,7 +156,7 @@ pub fn create(
     ensures moment { world.new.moment ≡ world.old.moment }
 {
     let place = find_room(world.blocks.as_slice(), from, cells, most);
-    let there = place_in(world.blocks.as_slice(), place)?;
+    let there = place_in(world.blocks.as_slice(), place);
     let (entity, now) = (world.made, world.moment);
     enter_at(
         alloc,

@@ -15,6 +15,7 @@ mod pushing;
 mod putting;
 mod reading;
 mod room;
+mod runnable;
 mod running;
 #[cfg(test)]
 mod spawn_tests;
@@ -26,6 +27,7 @@ mod world;
 
 pub use block::{NewColumn, Place, PlainBlock, TypeColumns};
 pub use frames::{run_frame, run_frames};
+pub use runnable::is_runnable;
 pub use running::run_scenario;
 pub use spawning::spawn_all;
 pub use world::{PlainWorld, raise, run_system};

@@ -11,7 +11,6 @@ ghost use Rattle.plain_world.specs.NewRows.{cells_in, types_of, has_room, room_p
 
 use crate::block::{PlainBlock, TypeColumns};
 use crate::cells::NewCell;
-use chunk_layout::layout;
 use ent_types::{Memory, Registry, TypeId};
 use std::alloc::Global;
 
@@ -26,28 +25,15 @@ fn size_of(registry: &Registry, ty: TypeId) -> u32
     registry.info(ty).column_size()
 }
 
-/// The most rows whose columns of these sizes fit into one block.
-fn most_rows(sizes: &[u32]) -> usize
-    requires few { length sizes.now ≤ 256 }
-    requires small { All (λ size. size ≤ 512) sizes.now }
-    ensures { result ≡ capacity_of sizes.now }
-{
-    match layout(sizes) {
-        Some(places) => places.capacity() as usize,
-        None => 0,
-    }
-}
-
 /// The most rows of these types that one block holds.
 pub fn capacity(alloc: Global, registry: &Registry, cells: &[NewCell]) -> Result<usize, Memory>
-    requires { length cells.now ≤ 256 }
     ensures { IfOk result (λ n. n ≡ capacity registry.now (types_of (cells_in cells.now))) }
 {
     let mut sizes = Vec::with_capacity(alloc, cells.len())?;
     for cell in cells {
         sizes.push(size_of(registry, cell.ty))?;
     }
-    Ok(most_rows(sizes.as_slice()))
+    Ok(chunk_layout::capacity(sizes.as_slice()) as usize)
 }
 
 /// Says whether these are the cells of a row with the types of these parts.

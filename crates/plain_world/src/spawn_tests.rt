@@ -1,9 +1,6 @@
 //! Spawns over rows in columns, and a scenario run from its spawns to its end.
-ghost use Rattle.std.specs.Prelude.{◌≤◌, length, sum_by, All, IsTrue};
-ghost use Rattle.scenario_record.specs.Runnable.{IsRunnable};
-
 use crate::tests::{COUNT, system};
-use crate::{PlainBlock, PlainWorld, run_scenario, spawn_all};
+use crate::{PlainBlock, PlainWorld, is_runnable, run_scenario, spawn_all};
 use ent_types::{
     FieldInfo, FieldKind, Kind, Name, Registry, Sequence, TypeId, TypeInfo, TypeSet, Value,
 };
@@ -82,36 +79,6 @@ fn rows(count: u32, parts: Vec<PartExpr>) -> SpawnEntry {
 fn counts(alloc: Global, count: u32) -> Result<SpawnEntry, Fail> {
     let parts = vec![in alloc; part(alloc, COUNT, &[5])?]?;
     Ok(rows(count, parts))
-}
-
-/// Says whether the spawns make at most 1,048,576 rows.
-fn are_few(spawns: &[SpawnEntry]) -> bool
-    ensures { IsTrue result → sum_by (λ p. p.count) spawns.now ≤ 1048576 }
-{
-    let mut count: u64 = 0;
-    for entry in spawns {
-        count += u64::from(entry.count);
-        if count > 1_048_576 {
-            return false;
-        }
-    }
-    true
-}
-
-/// Says whether the scenario can be run.
-fn is_runnable(scenario: &Scenario) -> bool
-    ensures { IsTrue result → IsRunnable scenario.now }
-{
-    if scenario.frames > 100_000 {
-        return false;
-    }
-    if scenario.system.len() > 256 {
-        return false;
-    }
-    if scenario.first_entity_version != 1 {
-        return false;
-    }
-    are_few(scenario.spawn.as_slice())
 }
 
 /// A scenario of these spawns and systems.
@@ -256,5 +223,20 @@ fn a_scenario_is_run(rt: HostRuntime) -> Result<(), Fail> {
     );
     assert_eq!(rt; first.order, 1);
     assert_eq!(rt; first.parts.get(0).ok_or("no part")?.mark, 13);
+    Ok(())
+}
+
+#[test]
+fn bounds_of_a_run(rt: HostRuntime) -> Result<(), Fail> {
+    let alloc = rt.alloc();
+    for (frames, count, runs) in [
+        (100_000, 1_048_576, true),
+        (100_001, 1, false),
+        (0, 1_048_577, false),
+    ] {
+        let spawns = vec![in alloc; counts(alloc, 0)?, counts(alloc, count)?]?;
+        let scenario = scenario(alloc, frames, spawns, Vec::new(alloc))?;
+        assert_eq!(rt; is_runnable(&scenario), runs);
+    }
     Ok(())
 }

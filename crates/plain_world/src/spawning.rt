@@ -17,9 +17,6 @@ use ent_types::{Memory, Registry};
 use scenario_record::{Scenario, SpawnEntry};
 use std::alloc::Global;
 
-/// The greatest number of parts, as many as there can be types.
-const MOST_PARTS: usize = 256;
-
 /// Makes the rows of a spawn, each with its own number. A block holds `most` of them.
 fn create_all(
     alloc: Global,
@@ -50,7 +47,7 @@ fn create_all(
     Ok(())
 }
 
-/// Makes the entities of one spawn. More parts than there can be types also are want of memory.
+/// Makes the entities of one spawn.
 fn spawn(
     alloc: Global,
     registry: &Registry,
@@ -70,9 +67,6 @@ fn spawn(
 {
     let first = SpawnRow { number: 0 };
     let cells = cells_of(alloc, registry, first, entry.parts.as_slice())?;
-    if cells.len() > MOST_PARTS {
-        return Err(Memory);
-    }
     let most = capacity(alloc, registry, cells.as_slice())?;
     create_all(alloc, registry, entry, most, world)
 }

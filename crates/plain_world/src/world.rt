@@ -1,5 +1,6 @@
 //! All blocks, and what a system does with them.
-ghost use Rattle.std.specs.Prelude.{◌≡◌, ◌+◌, ◌<◌, ◌^◌, map, length, OnOk, IfOk, is_some, if◌then◌else◌};
+ghost use Rattle.std.specs.Prelude.{◌≡◌, ◌+◌, ◌<◌, ◌≤◌, ◌^◌, map, length, OnOk, IfOk, is_some, if◌then◌else◌};
+ghost use Rattle.std.specs.List.{All};
 ghost use Rattle.plain_world.specs.Run.{raised, ran, visited_from};
 ghost use Rattle.plain_world.specs.Plain.{block_of, world_of, AreEven};
 ghost use Rattle.plain_world.specs.Evaluated.{types_set, blocks_after, AreEvenAfter};
@@ -41,18 +42,13 @@ pub fn raise(world: &mut PlainWorld)
     world.moment += 1;
 }
 
-/// The number of the next item, where the last block was visited or wasn't. More items than have a number of 32 bits
-/// also are want of memory.
-fn next_item(item: u32, is_visited: bool) -> Result<u32, Memory>
-    ensures { IfOk result (λ next. next ≡ (if is_visited then item + 1 else item)) }
+/// The number of the next item, where the last block was visited or wasn't.
+fn next_item(item: u32, is_visited: bool) -> u32
+    requires { item + 1 < 2 ^ 32 }
+    ensures next { result ≡ (if is_visited then item + 1 else item) }
+    ensures most { result ≤ item + 1 }
 {
-    if !is_visited {
-        return Ok(item);
-    }
-    match item.checked_add(1) {
-        Some(next) => Ok(next),
-        None => Err(Memory),
-    }
+    if is_visited { item + 1 } else { item }
 }
 
 /// What the system writes into each of the blocks, all as they were when the run began.
@@ -63,7 +59,9 @@ fn visit_all(
     run: &Run<'_>,
     blocks: &[PlainBlock],
 ) -> Result<Vec<Option<Vec<NewColumn>>>, Memory>
-    requires { AreEven blocks.now }
+    requires even { AreEven blocks.now }
+    requires blocks { length blocks.now < 2 ^ 32 }
+    requires rows { All (λ b. length b.entities.items < 2 ^ 32) blocks.now }
     ensures blocks { IfOk result (λ visits. blocks_after run.now.moment (types_set system.now.set) blocks.now visits.items
         ≡ visited_from registry.now system.now (pass_of run.now) 0 (map block_of blocks.now)) }
     ensures even { IfOk result (λ visits. AreEvenAfter run.now.moment (types_set system.now.set) blocks.now visits.items) }
@@ -73,7 +71,7 @@ fn visit_all(
     let mut item = 0;
     for block in blocks {
         let written = visit(alloc, registry, system, run, item, block)?;
-        item = next_item(item, written.is_some())?;
+        item = next_item(item, written.is_some());
         visits.push(written)?;
     }
     Ok(visits)

@@ -1,7 +1,7 @@
 use Rattle.std.proofs.Common.{◌≡◌, take, length}
 use Rattle.std.specs.List.{flat_map, range_with_len}
 use Rattle.ent_io.specs.Text.{appended}
-use Rattle.plain_text.specs.Places.{line_at}
+use Rattle.plain_text.specs.ByIndex.{line_at}
 use Rattle.plain_text.proofs.world.write_rows.Given as goal
 
 abbrev pub invariant-loop-index : goal.invariant-loop-index

@@ -1,4 +1,4 @@
-use Rattle.std.proofs.Common.{◌≡◌, ◌≤◌, take, length, map}
+use Rattle.std.proofs.Common.{◌≡◌, ◌≤◌, take, map}
 use Rattle.std.specs.List.{All}
 use Rattle.ent_types.specs.Registries.{type_at}
 use Rattle.ent_types.specs.Types.{column_size}
@@ -10,4 +10,3 @@ abbrev pub invariant-loop-cell : goal.invariant-loop-cell
 invariant-loop-cell l =
     (l.sizes.items ≡ map (λ t. column_size (type_at l.registry t)) (types_of (cells_in (take l.cell-index l.cells))))
     × All (λ size. size ≤ 512) l.sizes.items
-    × (length l.sizes.items ≡ l.cell-index)

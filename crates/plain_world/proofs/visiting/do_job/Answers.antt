@@ -27,5 +27,5 @@ loop-assign-preserved c =
     let mid = with_written c.loop-assign.columns.items parts in
     let held = rw c.as_slice.ensures.value at c.in_ok-column.ensures.values in
     let one = does_assign c.args.registry.now a pass item entities mid column.values.items held c.loop-assign.invariant.even in
-    rw (c.in_ok-push.ensures.items, with_written_more, c.in_ok-column.ensures.ty, c.in_ok-column.ensures.field)
+    rw (c.in_ok-note.ensures parts, with_written_more, c.in_ok-column.ensures.ty, c.in_ok-column.ensures.field)
     (job_more c.args.registry.now pass item c.args.set.now c.loop-assign.assign-index a entities parts mid _ (omega arith) c.assign-item.is c.loop-assign.invariant one)

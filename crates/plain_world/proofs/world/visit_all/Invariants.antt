@@ -1,4 +1,4 @@
-use Rattle.std.proofs.Common.{◌≡◌, ◌++◌, take, drop, length, map}
+use Rattle.std.proofs.Common.{◌≡◌, ◌≤◌, ◌++◌, take, drop, length, map}
 use Rattle.plain_world.specs.Run.{visited_from}
 use Rattle.plain_world.specs.Plain.{block_of}
 use Rattle.plain_world.specs.Evaluated.{types_set, blocks_after, AreEvenAfter}
@@ -14,4 +14,5 @@ invariant-loop-block l =
           ≡ visited_from l.registry l.system (pass_of l.run) 0 (map block_of l.blocks);
       even : AreEvenAfter l.run.moment (types_set l.system.set) (take l.block-index l.blocks) l.visits.items;
       count : length l.visits.items ≡ l.block-index;
+      item : l.item ≤ l.block-index;
     }
