@@ -9,6 +9,7 @@ use Rattle.std.proofs.lemmas.List.FromFn.{length-range_with_len, get_or-range_wi
 use Rattle.std.proofs.lemmas.List.Sums.{sum_by-cons}
 use Rattle.std.proofs.lemmas.Option.{get_or_from_slice_get, slice_get_within}
 use Rattle.ent_types.specs.declared.type_info.TypeInfo.{TypeInfo}
+use Rattle.ent_types.specs.declared.value.Value.{Value}
 use Rattle.world_model.specs.Row.{Row}
 use Rattle.world_model.specs.World.{Block}
 use Rattle.plain_world.specs.declared.block.TypeColumns.{TypeColumns}

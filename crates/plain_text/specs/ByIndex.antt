@@ -1,5 +1,5 @@
 -- The line of each index.
-use Rattle.std.specs.Prelude.{ℕ, nat_eq, List, [], map, Option, None, Some, find}
+use Rattle.std.specs.Prelude.{ℕ, List, [], map, Option, None, Some}
 use Rattle.ent_types.specs.declared.type_info.TypeInfo.{TypeInfo}
 use Rattle.world_model.specs.Row.{Row}
 use Rattle.plain_world.specs.declared.block.PlainBlock.{PlainBlock}

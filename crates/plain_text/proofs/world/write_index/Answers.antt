@@ -18,3 +18,6 @@ returns-clause-text g c =
     subst (λ (line : List ℕ). Writes c.write_row.result line (g.W.Sink.text c.args.out.now) (g.W.Sink.text c.write_row.new.out))
     (line_placed c.args.blocks.now c.args.index c.args.place c.requires.place c.index-blocks-place.result c.index-blocks-place.is c.args.registry.now)
     c.write_row.ensures.text
+
+pub bounds-blocks-place : goal.bounds-blocks-place
+bounds-blocks-place g c = block_there c.args.blocks.now c.args.index c.args.place c.requires.place

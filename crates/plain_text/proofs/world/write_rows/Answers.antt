@@ -1,6 +1,5 @@
 use Rattle.std.proofs.Common.{length, refl, ◌∙◌}
 use Rattle.std.specs.List.{range_with_len}
-use Rattle.std.proofs.lemmas.Option.{slice_get_read}
 use Rattle.ent_io.proofs.Exits.{exit_writes}
 use Rattle.ent_io.proofs.LineLoop.{lines_more, lines_all, prefix_in_line}
 use Rattle.plain_text.specs.ByIndex.{line_at}
@@ -24,7 +23,3 @@ pub returns-clause-text : goal.returns-clause-text
 returns-clause-text g c =
     lines_all (line_at c.args.registry.now c.args.blocks.now) (range_with_len 0 (length c.args.places.now)) c.loop-index.index _ _
     (index_past _ _ c.loop-index-test.false) c.loop-index.invariant.text
-
-pub write_index-requires-clause-place : goal.write_index-requires-clause-place
-write_index-requires-clause-place g c =
-    c.requires.told c.loop-index.index ∙ slice_get_read _ _ _ _ refl c.loop-index-test.true c.place-item.is
