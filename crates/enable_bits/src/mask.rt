@@ -127,26 +127,3 @@ impl Mask {
         Some(place + rest.trailing_zeros())
     }
 }
-
-#[cfg(test)]
-mod tests {
-    use super::*;
-
-    #[test]
-    fn keeps_places(rt: HostRuntime) {
-        let mut mask = Mask::first(3);
-        mask.set(127, true);
-        mask.set(1, false);
-        assert_eq!(rt; mask.count(), 3);
-        assert_eq!(rt; mask.next_from(0), Some(0));
-        assert_eq!(rt; mask.next_from(1), Some(2));
-        assert_eq!(rt; mask.next_from(3), Some(127));
-        assert_eq!(rt; mask.next_from(128), None);
-        mask.swap_back(1, 128);
-        assert!(rt; mask.get(1) && !mask.get(127));
-        assert_eq!(rt; mask.and(&Mask::first(2)).count(), 2);
-        assert_eq!(rt; mask.and_not(&Mask::first(2)).next_from(0), Some(2));
-        assert_eq!(rt; Mask::first(128).count(), 128);
-        assert_eq!(rt; Mask::empty().next_from(0), None);
-    }
-}

@@ -200,6 +200,3 @@ impl EntityTable {
         }
     }
 }
-
-#[cfg(test)]
-mod tests;

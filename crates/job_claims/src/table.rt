@@ -15,9 +15,6 @@ use std::alloc::{AllocError, Global};
 use std::marker::Model;
 use std::snapshot::Snapshot;
 
-#[cfg(test)]
-mod tests;
-
 /// Pieces that any number of threads draw from, each once.
 #[derive(Drop)]
 pub struct ClaimTable<T> {

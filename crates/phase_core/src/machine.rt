@@ -10,9 +10,6 @@ use std::alloc::Global;
 use std::marker::Model;
 use std::snapshot::Snapshot;
 
-#[cfg(test)]
-mod tests;
-
 /// The items of a phase, the number that is drawn next, and where each worker stands.
 ///
 /// This project's own. Its steps are the events of a phase that many threads run: a draw, one row of a drawn item, and

@@ -189,6 +189,3 @@ fn next_id(slots: &mut Vec<Slot>, free: &mut Vec<u32>) -> Result<u32, Memory>
     free.reserve(id as usize + 1)?;
     Ok(id)
 }
-
-#[cfg(test)]
-mod tests;

@@ -9,8 +9,6 @@ mod group;
 mod law;
 mod place;
 mod splice;
-#[cfg(test)]
-mod tests;
 
 pub use child::{Band, Child};
 pub use fault::OrderFault;

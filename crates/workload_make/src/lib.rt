@@ -4,8 +4,6 @@
 mod draws;
 mod scenario;
 mod scene;
-#[cfg(test)]
-mod tests;
 
 pub use scenario::scenario_of;
 pub use scene::scene_of;
