@@ -2,3 +2,4 @@ pub mod TableLemmas
 pub mod SlotLemmas
 pub mod AliveSlot
 pub mod Ahead
+pub mod LivingLemmas

@@ -1,4 +1,4 @@
-//! Generated input: a scenario and two scenes for every number, for benchmarks and for tries at random.
+//! Generated input: a scenario and two scenes for each number, for benchmarks and random comparison.
 #![tactic(auto)]
 
 mod draws;
