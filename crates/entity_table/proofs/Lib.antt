@@ -2,4 +2,3 @@ pub mod TableLemmas
 pub mod SlotLemmas
 pub mod AliveSlot
 pub mod Ahead
-pub mod LivingLemmas

@@ -2,6 +2,7 @@
 ghost use Rattle.std.specs.Prelude.{◌≡◌, ◌+◌, ◌≤◌, true, length, IfOk};
 ghost use Rattle.std.specs.Thread.{IsSync};
 
+use ent_types::Memory;
 use job_claims::{ClaimSeat, ClaimTable, Drawn};
 use std::alloc::{AllocError, Global};
 use std::test::Fail;
@@ -134,5 +135,22 @@ fn threads_draw_each_piece_once(rt: HostRuntime) -> Result<(), Fail> {
     for threads in 2..9u64 {
         assert!(rt; threads_share(&rt, rt.alloc(), threads)?);
     }
+    Ok(())
+}
+
+/// Proved from the contracts alone: a table of no pieces ends at the first draw.
+fn no_piece_is_drawn(alloc: Global) -> Result<(), Memory> {
+    let none: Vec<u32> = Vec::new(alloc);
+    let (table, mut seat) = ClaimTable::new(alloc, none)?;
+    if let Drawn::Piece(_, _) = table.draw(&mut seat) {
+        unreachable!();
+    }
+    table.close(seat);
+    Ok(())
+}
+
+#[test]
+fn a_table_of_no_pieces_ends(rt: HostRuntime) -> Result<(), Fail> {
+    no_piece_is_drawn(rt.alloc())?;
     Ok(())
 }

@@ -1,6 +1,5 @@
 //! Tables of entities.
 ghost use Rattle.std.specs.Prelude.{◌≡◌};
-ghost use Rattle.entity_table.specs.Table.{place_of};
 
 use ent_types::{Entity, Steps};
 use entity_table::{EntityTable, Place, TableFault};
@@ -26,22 +25,8 @@ enum Deed {
     EndOldest,
 }
 
-fn found<L: Ledger>(table: &EntityTable, e: Entity, blank: Blank) -> Option<Place>
-    requires { (blank.name ≡ L.name) × (blank.parts ≡ L.parts) × (L.parts ≡ 1) }
-    ensures { result ≡ place_of table.now e }
-{
-    let mut steps = Steps::<L>::new(blank);
-    table.find(e, &mut steps)
-}
-
-fn find_place(table: &EntityTable, e: Entity) -> Option<Place>
-    ensures { result ≡ place_of table.now e }
-{
-    found::<Brand>(table, e, Blank::new(1))
-}
-
 fn is_at(table: &EntityTable, e: Entity, wanted: Option<Place>) -> bool {
-    find_place(table, e) == wanted
+    table.place_of(e) == wanted
 }
 
 /// Reserves room for one entity and makes it, if there is room.
@@ -52,7 +37,7 @@ fn make_one(table: &mut EntityTable, place: Place) -> Result<Entity, TableFault>
 
 /// `true` if the entity was alive and isn't any more.
 fn ends(table: &mut EntityTable, e: Entity) -> bool {
-    if find_place(table, e).is_none() {
+    if table.place_of(e).is_none() {
         return false;
     }
     table.free(e);
@@ -61,7 +46,7 @@ fn ends(table: &mut EntityTable, e: Entity) -> bool {
 
 /// `true` if the entity was alive and is at another place now.
 fn moves(table: &mut EntityTable, e: Entity, place: Place) -> bool {
-    if find_place(table, e).is_none() {
+    if table.place_of(e).is_none() {
         return false;
     }
     table.put_place(e, place);
@@ -165,12 +150,77 @@ fn a_table_follows_plain_lists(rt: HostRuntime) -> Result<(), Fail> {
     Ok(())
 }
 
+fn found<L: Ledger>(table: &EntityTable, e: Entity, blank: Blank) -> Option<Place>
+    requires { (blank.name ≡ L.name) × (blank.parts ≡ L.parts) × (L.parts ≡ 1) }
+{
+    let mut steps = Steps::<L>::new(blank);
+    table.find(e, &mut steps)
+}
+
+/// `true` if a search that counts its steps finds the entity at this place.
+fn is_found(table: &EntityTable, e: Entity, wanted: Place) -> bool {
+    found::<Brand>(table, e, Blank::new(1)) == Some(wanted)
+}
+
 #[test]
 fn a_row_moves(rt: HostRuntime) -> Result<(), Fail> {
     let mut table = EntityTable::new(rt.alloc(), 1);
     let e = make_one(&mut table, Place { block: 0, row: 0 })?;
     assert!(rt; moves(&mut table, e, Place { block: 2, row: 5 }));
+    assert!(rt; is_found(&table, e, Place { block: 2, row: 5 }));
     assert!(rt; is_at(&table, Entity::NULL, None));
+    Ok(())
+}
+
+/// Makes four entities and ends the second and the last.
+fn make_and_end(table: &mut EntityTable) -> Result<bool, Fail> {
+    let _ = make_one(table, Place { block: 0, row: 0 })?;
+    let second = make_one(table, Place { block: 0, row: 1 })?;
+    let _ = make_one(table, Place { block: 0, row: 2 })?;
+    let last = make_one(table, Place { block: 0, row: 3 })?;
+    Ok(ends(table, second) & ends(table, last))
+}
+
+/// `true` if these are the rows of the alive entities, in the order of the walk.
+fn walks(table: &EntityTable, wanted: &[(u32, u32)]) -> bool {
+    let mut met = 0usize;
+    for (e, place) in table.living() {
+        if wanted.get(met) != Some(&(e.index, place.row)) {
+            return false;
+        }
+        met = met.wrapping_add(1);
+    }
+    met == wanted.len()
+}
+
+#[test]
+fn the_living_come_by_index(rt: HostRuntime) -> Result<(), Fail> {
+    let mut table = EntityTable::new(rt.alloc(), 1);
+    assert!(rt; walks(&table, &[]));
+    assert!(rt; make_and_end(&mut table)?);
+    assert!(rt; walks(&table, &[(0, 0), (2, 2)]));
+    Ok(())
+}
+
+/// Proved from the contracts alone: the first two entities of an index, and what the table counts.
+fn names_are_proved(alloc: Global) -> Result<(), TableFault> {
+    let mut table = EntityTable::new(alloc, 7);
+    let is_new = table.room() == 1_048_576 && table.alive_count() == 0;
+    prove!(is_new);
+    table.reserve(1)?;
+    let first = table.make(Place { block: 0, row: 0 });
+    let is_first = first.index == 0 && first.version == 7;
+    prove!(is_first);
+    table.free(first);
+    let next = table.ahead(0);
+    let is_raised = next.index == 0 && next.version == 8;
+    prove!(is_raised);
+    Ok(())
+}
+
+#[test]
+fn names_come_in_the_stated_order(rt: HostRuntime) -> Result<(), Fail> {
+    names_are_proved(rt.alloc())?;
     Ok(())
 }
 

@@ -138,3 +138,22 @@ fn many_values_have_an_id_each(rt: HostRuntime) -> Result<(), Fail> {
     assert!(rt; are_found_again(rt.alloc(), &mut table, &ids)?);
     Ok(())
 }
+
+/// Proved from the contracts alone: the first id of a table is held once, and free after its release.
+fn holds_are_proved(alloc: Global) -> Result<(), Memory> {
+    let mut table = SharedTable::new(alloc);
+    let values = list_of(alloc, &[7])?;
+    let id = table.intern(TypeId(3), &values)?;
+    let is_held = table.holds(id) == 1;
+    prove!(is_held);
+    table.release(id);
+    let is_free = table.holds(id) == 0;
+    prove!(is_free);
+    Ok(())
+}
+
+#[test]
+fn the_last_release_frees_an_id(rt: HostRuntime) -> Result<(), Fail> {
+    holds_are_proved(rt.alloc())?;
+    Ok(())
+}

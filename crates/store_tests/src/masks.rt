@@ -56,3 +56,11 @@ fn the_last_row_takes_the_place_of_another(rt: HostRuntime) {
     assert!(rt; shares(&mask, &Mask::first(2), 2));
     assert!(rt; exceeds_from(&mask, &Mask::first(2), 2));
 }
+
+/// Proved from the contracts alone.
+#[test]
+fn no_row_is_in_the_empty_mask() {
+    let mask = Mask::empty();
+    let is_empty = mask.count() == 0 && mask.next_from(0).is_none() && !mask.get(5);
+    prove!(is_empty);
+}

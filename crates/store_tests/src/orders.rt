@@ -3,7 +3,7 @@ use ent_types::Sequence;
 use std::alloc::Global;
 use std::test::Fail;
 use system_order::Band::{First, Last, Middle};
-use system_order::{Band, Child, OrderFault, order};
+use system_order::{Band, Child, OrderFault, order, order_by_root};
 
 /// A child, by number from 3 on: its parent, whether it is a group, its band, and the siblings that it is to be before
 /// and after.
@@ -181,6 +181,36 @@ fn systems_have_the_reference_order(rt: HostRuntime) -> Result<(), Fail> {
 #[test]
 fn a_cycle_names_its_earliest_child(rt: HostRuntime) -> Result<(), Fail> {
     assert!(rt; all_pass(rt.alloc(), &CYCLES)?);
+    Ok(())
+}
+
+fn are(found: &Sequence<u32>, wanted: &[u32]) -> bool {
+    found.as_slice() == wanted
+}
+
+fn are_by_root(alloc: Global, children: &[Child]) -> bool {
+    if children.len() > 1000 {
+        return false;
+    }
+    match order_by_root(alloc, children) {
+        Ok(roots) => are(&roots.initialization, &[4, 6])
+            & are(&roots.simulation, &[3])
+            & are(&roots.presentation, &[5]),
+        Err(_) => false,
+    }
+}
+
+fn roots_pass(alloc: Global) -> Result<bool, Fail> {
+    let mut children = roots(alloc)?;
+    for parent in [1, 0, 2, 0] {
+        push(alloc, &mut children, (parent, false, Middle, &[], &[]))?;
+    }
+    Ok(are_by_root(alloc, &children))
+}
+
+#[test]
+fn each_root_has_its_systems(rt: HostRuntime) -> Result<(), Fail> {
+    assert!(rt; roots_pass(rt.alloc())?);
     Ok(())
 }
 

@@ -182,3 +182,21 @@ fn a_list_holds_up_to_its_faulty_step(rt: HostRuntime) -> Result<(), Fail> {
     assert!(rt; keeps_what_was_taken(rt.alloc())?);
     Ok(())
 }
+
+/// Proved from the contracts alone: a worker that doesn't exist takes no step, and the last item leaves none to draw.
+fn steps_are_proved(alloc: Global) -> Result<(), Memory> {
+    let cell = Cell::new(0);
+    let items = vec![in alloc; fresh(0, &cell, None)]?;
+    let mut machine = Machine::new(alloc, items, 1)?;
+    let is_refused = machine.apply(StepOf::Draw(1)).is_err();
+    prove!(is_refused);
+    let is_drawn = machine.apply(StepOf::Draw(0)).is_ok();
+    prove!(is_drawn);
+    Ok(())
+}
+
+#[test]
+fn a_worker_draws_first(rt: HostRuntime) -> Result<(), Fail> {
+    steps_are_proved(rt.alloc())?;
+    Ok(())
+}

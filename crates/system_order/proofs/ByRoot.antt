@@ -154,7 +154,7 @@ module _ (children : List Child) (acyclic : first_cycle children ≡ None) where
       ∙ members_tally children y x
       ∙ one_member (eqb parent y) _ (tally_within x 3 (length children - 3) low (omega (arith, low, high)))
       ∙ same-sym parent y
-      ∙ ap (λ n. n + same y parent) (sym (own_of_group children y x is)))
+      ∙ omega (arith, own_of_group children y x is))
       (λ is.
       let apart : same y parent ≡ 0 = same-sym y parent ∙ kinds_differ children parent y (forest.groups x low high) is in
       single y x ∙ sym (own_of_system children y x is) ∙ omega (arith, apart))
@@ -266,7 +266,7 @@ reached_is children forest root (suc n) x low h =
 
 -- ---- all levels
 
-row_out : (children : List Child) (root x : ℕ) → tally x (spliced children 0 (root ∷ [])) ≡ same root x
+row_out : (children : List Child) (root x : ℕ) → tally x (spliced children zero (root ∷ [])) ≡ same root x
 unfolding spliced
 row_out children root x = single root x
 
@@ -308,7 +308,7 @@ module _ (children : List Child) (acyclic : first_cycle children ≡ None) (fore
   -- how often a number is below the root
   tally_below_root : (x : ℕ) → tally x (systems_below children root) ≡ cond (is_system_below children root x) 1 0
   tally_below_root x =
-      let few : 3 ≤ length children = group_within children 2 (forest.roots 2 (omega arith)) in
+      let few : 3 ≤ length children = omega (arith, group_within children 2 (forest.roots 2 (omega arith))) in
       let n = length children in
       elim (cases_lt x n) [
         | inr past ↦
