@@ -3,6 +3,7 @@ use Rattle.std.specs.Prelude.{◌≡◌, ℕ, ◌+◌, ◌-◌, ◌<◌, ◌≤�
 use Rattle.std.specs.Option.{option_map}
 use Rattle.std.specs.Vec.{vec_capacity}
 use Rattle.ent_types.specs.declared.entity.Entity.{Entity}
+use Rattle.ent_types.specs.declared.limits.TheConstants.{MOST_ENTITIES, MOST_INDEXES}
 use Rattle.entity_table.specs.declared.table.Place.{Place}
 use Rattle.entity_table.specs.declared.table.Slot.{Slot}
 use Rattle.entity_table.specs.declared.table.EntityTable.TheInside.{Inside}
@@ -58,8 +59,8 @@ pub record IsConsistent (t : Inside) : Type 0 where
   pub first : 1 ≤ t.first_version
   pub alive : t.alive ≡ count_by is_some (holders_of t.slots.items)
   pub counted : t.alive + length t.free.items ≤ length t.slots.items
-  pub most_alive : t.alive + t.spare ≤ 1048576
-  pub most_made : length t.slots.items + (t.spare - length t.free.items) ≤ 4194304
+  pub most_alive : t.alive + t.spare ≤ MOST_ENTITIES
+  pub most_made : length t.slots.items + (t.spare - length t.free.items) ≤ MOST_INDEXES
   pub slots_room : length t.slots.items + (t.spare - length t.free.items) ≤ vec_capacity t.slots
   pub free_room : length t.slots.items + (t.spare - length t.free.items) ≤ vec_capacity t.free
 

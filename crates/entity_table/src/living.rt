@@ -7,6 +7,7 @@ ghost use Rattle.entity_table.specs.Slots.{holders_of, FindsFirst};
 use crate::Place;
 use crate::table::Slot;
 use ent_types::Entity;
+use ent_types::limits::MOST_INDEXES;
 use std::marker::Model;
 
 /// A walk over the alive entities with the places of their rows, by rising index. Contracts see the list of those
@@ -22,6 +23,7 @@ pub struct Living<'a> {
 impl<'a> Model for Living<'a> {
     ghost use Rattle.std.specs.Prelude.{◌+◌, ◌≤◌, List, length};
     ghost use Rattle.ent_types.specs.declared.entity.Entity.{Entity as Name};
+    ghost use Rattle.ent_types.specs.declared.limits.TheConstants.{MOST_INDEXES};
     ghost use Rattle.entity_table.specs.declared.table.Place.{Place as At};
 
     ghost Value = { List (Name × At) };
@@ -31,13 +33,13 @@ impl<'a> Model for Living<'a> {
 
     ghost view = { λ l. living_from l.index (holders_of l.slots.now) };
 
-    ghost invariant = { λ l. l.index + length l.slots.now ≤ 4194304 };
+    ghost invariant = { λ l. l.index + length l.slots.now ≤ MOST_INDEXES };
 }
 
 impl<'a> Living<'a> {
     /// Returns the walk over these slots, the first of which is that of `index`.
     pub(crate) fn new(slots: &'a [Slot], index: u32) -> Living<'a>
-        requires { index + length slots.now ≤ 4194304 }
+        requires { index + length slots.now ≤ MOST_INDEXES }
         ensures { result ≡ living_from index (holders_of slots.now) }
     {
         Living { slots, index }

@@ -5,17 +5,12 @@ ghost use Rattle.entity_table.specs.Table.{empty_table, place_of, IsAlive, alive
 ghost use Rattle.entity_table.specs.declared.table.TableFault.TheVariants.{Memory as OutOfMemory};
 
 use crate::Living;
+use ent_types::limits::{MOST_ENTITIES, MOST_INDEXES};
 use ent_types::{Entity, Steps};
 use std::alloc::{AllocError, Global};
 use std::marker::Model;
 use std::sync::ledger::Ledger;
 use thiserror::Error;
-
-/// The most entities that are alive at once.
-const MOST_ALIVE: u32 = 1_048_576;
-
-/// The most indexes that are ever made.
-const MOST_INDEXES: u32 = 4_194_304;
 
 /// Where an entity's row is.
 #[derive(Clone, Copy, Debug, PartialEq, Eq)]
@@ -57,7 +52,7 @@ pub(crate) struct Slot {
 ///
 /// An entity is alive only while the version at its index equals its own, as in Unity. These rules are entsim's own:
 /// the index freed last is given first, fresh indexes get a first version, an index with the last version is
-/// retired, and at most 1,048,576 entities are alive on 4,194,304 indexes.
+/// retired, and at most [`MOST_ENTITIES`] entities are alive on [`MOST_INDEXES`] indexes.
 ///
 /// ```text
 /// table.reserve(1)?;
@@ -105,7 +100,7 @@ impl EntityTable {
     /// Counts the alive entities, in one step.
     pub fn alive_count(&self) -> u32
         ensures value { result ≡ alive_count self.now.table }
-        ensures bound { result ≤ 1048576 }
+        ensures bound { result ≤ MOST_ENTITIES }
     {
         self.alive
     }
@@ -114,10 +109,10 @@ impl EntityTable {
     pub fn room(&self) -> u32
         ensures value { result ≡ room self.now.table }
         ensures spare { self.now.spare ≤ result }
-        ensures made { made self.now.table ≤ 4194304 }
+        ensures made { made self.now.table ≤ MOST_INDEXES }
     {
         let indexes = self.free.len() as u32 + (MOST_INDEXES - self.slots.len() as u32);
-        (MOST_ALIVE - self.alive).min(indexes)
+        (MOST_ENTITIES - self.alive).min(indexes)
     }
 
     /// Takes the memory that `n` more calls of `make`, and the calls of `free` for their entities, need. It returns
@@ -147,7 +142,7 @@ impl EntityTable {
         ensures table { self.new.table ≡ with_made self.old.table place }
         ensures spare { self.new.spare ≡ self.old.spare - 1 }
         ensures version { 1 ≤ result.version }
-        ensures made { made self.new.table ≤ 4194304 }
+        ensures made { made self.new.table ≤ MOST_INDEXES }
         ensures fresh { place_of self.old.table result ≡ None }
         ensures map { Rebinds self.old.table self.new.table result (Some place) }
     {
