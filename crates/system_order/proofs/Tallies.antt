@@ -18,7 +18,7 @@ pub same-sym : (y x : ℕ) → same y x ≡ same x y
 same-sym y x =
     elim (cases_eq y x) [
       | inl e ↦ same_yes y x e ∙ sym (same_yes x y (sym e))
-      | inr no ↦ same_no y x no ∙ sym (same_no x y (λ e. no (sym e)))
+      | inr apart ↦ same_no y x apart ∙ sym (same_no x y (λ e. apart (sym e)))
     ]
 
 -- how often a number is in a list, counted from its front
@@ -51,14 +51,18 @@ none_pass true false e n h = omega (arith, h)
 none_pass false true e n h = omega (arith, h)
 none_pass false false e n h = refl
 
+no_pass : (q : Bool) (n : ℕ) → n ≡ 0 → n ≡ cond q n 0
+no_pass true n h = refl
+no_pass false n h = h
+
 pub tally-filter : (p : ℕ → Bool) (x : ℕ) (xs : List ℕ) → tally x (filter p xs) ≡ cond (p x) (tally x xs) 0
-tally-filter p x [] = elim (p x) as (λ b. 0 ≡ cond b 0 0) [ true ↦ refl | false ↦ refl ]
+tally-filter p x [] = no_pass (p x) (tally x []) refl
 tally-filter p x (y ∷ ys) =
     tally_kept (p y) y x (filter p ys)
     ∙ ap (λ n. cond (p y) (same y x) 0 + n) (tally-filter p x ys)
     ∙ (elim (cases_eq y x) [
       | inl e ↦ kept_pass (p y) (p x) (same y x) (tally x ys) (ap p e)
-      | inr no ↦ none_pass (p y) (p x) (same y x) (tally x ys) (same_no y x no)
+      | inr apart ↦ none_pass (p y) (p x) (same y x) (tally x ys) (same_no y x apart)
     ])
 
 pub tally_below : (x start n : ℕ) → x < start → tally x (range_with_len start n) ≡ 0
@@ -74,5 +78,5 @@ tally_within x start zero low high = absurd (omega (arith, low, high))
 tally_within x start (suc n) low high =
     elim (cases_eq start x) [
       | inl e ↦ omega (arith, same_yes start x e, tally_below x (start + 1) n (omega (arith, e)))
-      | inr no ↦ omega (arith, same_no start x no, tally_within x (start + 1) n (omega (arith, no, low)) (omega (arith, high)))
+      | inr apart ↦ omega (arith, same_no start x apart, tally_within x (start + 1) n (omega (arith, apart, low)) (omega (arith, high)))
     ]

@@ -1,4 +1,4 @@
-use Rattle.std.proofs.Common.{◌≡◌, ◌<◌, ◌≤◌, length, get_or, Option, Some, None, OnSome, sym, arith}
+use Rattle.std.proofs.Common.{◌<◌, ◌≤◌, length, Option, Some, None, OnSome, sym, arith}
 use Rattle.std.proofs.lemmas.Bool.{ltb-true}
 use Rattle.entity_table.specs.declared.table.Place.{Place}
 use Rattle.entity_table.proofs.SlotLemmas.{version_at}
