@@ -1,4 +1,4 @@
--- A mask as the number whose binary digits say which places it has.
+-- A mask as a number: the mask has the places of the binary digits that are 1.
 use Rattle.std.specs.Prelude.{◌≡◌, ℕ, ◌+◌, ◌*◌, ◌/◌, ◌^◌, ◌<◌, Bool, List, ◌∷◌, sum_by, filter, ◌==◌, refl}
 use Rattle.std.specs.Int.{bit_at}
 use Rattle.std.specs.List.{range_with_len}

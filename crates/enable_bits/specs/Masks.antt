@@ -2,7 +2,7 @@
 use Rattle.std.specs.Prelude.{◌≡◌, ℕ, ◌-◌, ◌≤◌, ◌<◌, Bool, true, false, List, Option, filter, find, nat_eq, nat_le, if◌then◌else◌, ◌==◌}
 use Rattle.std.specs.List.{list_any, range_with_len}
 
--- the places from start on, as many as n, that pass
+-- those of the n places from start on that pass
 unfoldable pub places_between : ℕ → ℕ → (ℕ → Bool) → List ℕ
 places_between start n test = filter test (range_with_len start n)
 
@@ -22,7 +22,7 @@ IsMask mask = mask ≡ places_where (has mask)
 abbrev pub with_place : List ℕ → ℕ → Bool → List ℕ
 with_place mask place on = places_where (λ other. if other == place then on else has mask other)
 
--- the mask of rows of which the last one, of len, has gone to this place: the place has its bit, and the last is clear
+-- the mask of len rows after the last row has gone to this place: the place has the bit of the last, which is clear
 abbrev pub swapped_back : List ℕ → ℕ → ℕ → List ℕ
 swapped_back mask place len = with_place (with_place mask place (has mask (len - 1))) (len - 1) false
 

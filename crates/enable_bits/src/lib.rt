@@ -1,4 +1,4 @@
-//! Sets of rows of one block: which rows have a type enabled, which rows a visit takes.
+//! Sets of rows of one block: the rows that have a type enabled, or the rows that a query visits.
 #![tactic(auto)]
 
 pub use mask::Mask;

@@ -3,10 +3,15 @@ ghost use Rattle.enable_bits.specs.Masks.{has, places_where, with_place, swapped
 
 use std::marker::Model;
 
-/// A set of places below 128, one for each row of a block. Contracts see the list of its places in
-/// rising order.
+/// A set of places below 128, one for each row of a block. Contracts see the list of its places in rising order.
 ///
 /// Unity keeps the enable bits of a chunk's rows in the same way. No call takes memory.
+///
+/// ```text
+/// let mut mask = Mask::first(3);
+/// mask.set(1, false);
+/// assert_eq!(mask.next_from(1), Some(2));
+/// ```
 #[derive(Clone, Copy, Debug)]
 pub struct Mask {
     bits: u128,
@@ -28,7 +33,7 @@ impl Model for Mask {
     ghost inverse_ok = { λ m h. ap (λ b. record { bits = b }) (bits_of-places_of m.bits h) };
 }
 
-/// The number without its lowest digits, however many these are.
+/// Returns the number without its lowest `places` digits. `>>` would ask that there are fewer than 128.
 fn shifted(bits: u128, places: u32) -> u128
     ensures { result ≡ bits / 2 ^ places }
 {
@@ -36,14 +41,14 @@ fn shifted(bits: u128, places: u32) -> u128
 }
 
 impl Mask {
-    /// The mask of no place.
+    /// Returns the mask of no place.
     pub fn empty() -> Mask
         ensures { result ≡ [] }
     {
         Mask { bits: 0 }
     }
 
-    /// The mask of the places below `n`.
+    /// Returns the mask of the places below `n`.
     pub fn first(n: u32) -> Mask
         requires { n ≤ 128 }
         ensures { result ≡ places_where (λ place. nat_lt place n) }
@@ -53,7 +58,7 @@ impl Mask {
         }
     }
 
-    /// Says whether the mask has a place.
+    /// `true` if the mask has a place.
     pub fn get(&self, place: u32) -> bool
         requires { place < 128 }
         ensures { result ≡ has self.now place }
@@ -73,7 +78,7 @@ impl Mask {
         }
     }
 
-    /// The places that both masks have.
+    /// Returns the places that both masks have.
     pub fn and(&self, other: &Mask) -> Mask
         ensures { result ≡ places_where (λ place. has self.now place && has other.now place) }
     {
@@ -82,7 +87,7 @@ impl Mask {
         }
     }
 
-    /// The places of this mask that the other one lacks.
+    /// Returns the places of this mask that the other one lacks.
     pub fn and_not(&self, other: &Mask) -> Mask
         ensures { result ≡ places_where (λ place. has self.now place && not (has other.now place)) }
     {
@@ -91,7 +96,7 @@ impl Mask {
         }
     }
 
-    /// How many places the mask has.
+    /// Counts the places of the mask.
     pub fn count(&self) -> u32
         ensures value { result ≡ length self.now }
         ensures bound { result ≤ 128 }
@@ -100,8 +105,8 @@ impl Mask {
         self.bits.count_ones()
     }
 
-    /// Gives `place` the bit of `len - 1` and then clears `len - 1`, as the rows of a block do where
-    /// the last of `len` rows takes the place of one that left.
+    /// Gives `place` the bit of `len - 1` and then clears `len - 1`. A block does so when the last of `len` rows takes
+    /// the place of a row that left.
     pub fn swap_back(&mut self, place: u32, len: u32)
         requires within { place < len }
         requires rows { len ≤ 128 }
@@ -113,7 +118,7 @@ impl Mask {
         self.set(last, false);
     }
 
-    /// The least place of the mask at or past `place`, or `None` where there is none.
+    /// Returns the least place of the mask at or past `place`, or `None` if there is none.
     pub fn next_from(&self, place: u32) -> Option<u32>
         ensures value { result ≡ first_from self.now place }
         ensures least { MatchOption result (HasNoneFrom self.now place) (IsNextFrom self.now place) }
@@ -125,28 +130,5 @@ impl Mask {
             return None;
         }
         Some(place + rest.trailing_zeros())
-    }
-}
-
-#[cfg(test)]
-mod tests {
-    use super::*;
-
-    #[test]
-    fn keeps_places(rt: HostRuntime) {
-        let mut mask = Mask::first(3);
-        mask.set(127, true);
-        mask.set(1, false);
-        assert_eq!(rt; mask.count(), 3);
-        assert_eq!(rt; mask.next_from(0), Some(0));
-        assert_eq!(rt; mask.next_from(1), Some(2));
-        assert_eq!(rt; mask.next_from(3), Some(127));
-        assert_eq!(rt; mask.next_from(128), None);
-        mask.swap_back(1, 128);
-        assert!(rt; mask.get(1) && !mask.get(127));
-        assert_eq!(rt; mask.and(&Mask::first(2)).count(), 2);
-        assert_eq!(rt; mask.and_not(&Mask::first(2)).next_from(0), Some(2));
-        assert_eq!(rt; Mask::first(128).count(), 128);
-        assert_eq!(rt; Mask::empty().next_from(0), None);
     }
 }

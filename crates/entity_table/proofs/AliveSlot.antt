@@ -12,12 +12,12 @@ use Rattle.entity_table.proofs.TableLemmas.{alive_at, alive_below, rebinds, only
 use Rattle.entity_table.proofs.SlotLemmas.{slot_version, counts, not_stacked, free_of-push, free_of-set}
 
 -- a table by its parts
-abbrev pub table_with : List (Option Holder) → List Entity → ℕ → ℕ → Table
-table_with holders free first spare = record { holders = holders; free = free; first_version = first; spare = spare }
+abbrev pub table_with : List (Option Holder) → List Entity → ℕ → Table
+table_with holders free first = record { holders = holders; free = free; first_version = first }
 
 -- a table by the lists that it is made of
-abbrev pub table_from : List (Option Holder) → List ℕ → List ℕ → ℕ → ℕ → Table
-table_from holders versions stack first spare = table_with holders (free_of versions stack) first spare
+abbrev pub table_from : List (Option Holder) → List ℕ → List ℕ → ℕ → Table
+table_from holders versions stack first = table_with holders (free_of versions stack) first
 
 -- the slots with another one at an index have its holder there, and its version
 pub holders_of-set : (slots : List Slot) (i : ℕ) (slot : Slot) → holders_of (set slots i slot) ≡ set (holders_of slots) i (holder_of slot)
@@ -64,10 +64,10 @@ module _ (t : Inside) (e : Entity) (slot : Slot) (alive : IsAlive (table_of t) e
   -- the slot with another place
   pub table_of-moved : (place : Place) →
       table_from (holders_of (set t.slots.items e.index (record { version = slot.version; place = Some place })))
-      (versions_of (set t.slots.items e.index (record { version = slot.version; place = Some place }))) t.free.items t.first_version t.spare
+      (versions_of (set t.slots.items e.index (record { version = slot.version; place = Some place }))) t.free.items t.first_version
       ≡ with_place (table_of t) e place
   table_of-moved place =
-      ap₂ (λ hs vs. table_from hs vs t.free.items t.first_version t.spare)
+      ap₂ (λ hs vs. table_from hs vs t.free.items t.first_version)
       (holders_of-set t.slots.items e.index _ ∙ ap (λ v. set (holders_of t.slots.items) e.index (Some (let h : Holder = record { version = v; place = place } in h))) version_is)
       (versions_of-same t.slots.items e.index _ slot read refl)
 

@@ -1,14 +1,22 @@
 -- What a write to a slot, and a push to or a pop from the stack, do to the table.
-use Rattle.std.proofs.Common.{◌≡◌, ◌≢◌, ℕ, suc, ◌+◌, ◌<◌, ◌≤◌, cond, inl, inr, List, [], ◌∷◌, ◌++◌, length, Option, Some, None, is_some, get_or, set, map, reverse, count_by, refl, sym, ap, ◌∙◌, arith}
-use Rattle.std.proofs.lemmas.Bool.{cases_lt}
-use Rattle.std.proofs.lemmas.List.{map-append, length-map, length-reverse, length-append, reverse-append, get_or-set_other, length-set, get_or_append_left}
+use Rattle.std.proofs.Common.{◌≡◌, ◌≢◌, ℕ, suc, ◌+◌, ◌<◌, ◌≤◌, cond, inl, inr, List, [], ◌∷◌, ◌++◌, length, Option, Some, None, is_some, get_or, set, map, reverse, count_by, refl, sym, ap, subst, ◌∙◌, arith}
+use Rattle.std.proofs.lemmas.Bool.{cases_eq, cases_lt}
+use Rattle.std.proofs.lemmas.List.{map-append, length-map, length-reverse, length-append, reverse-append, get_or-set_other, length-set, get_or_append_left, get_or-set_same, get_or-map}
 use Rattle.std.proofs.Math.Seq.{get_or-append_seam}
 use Rattle.std.proofs.lemmas.List.Sums.{sum_by-set, get_or-le-sum_by}
 use Rattle.ent_types.specs.declared.entity.Entity.{Entity}
 use Rattle.entity_table.specs.Table.{Holder}
 use Rattle.entity_table.specs.declared.table.Slot.{Slot}
 use Rattle.entity_table.specs.declared.table.Place.{Place}
-use Rattle.entity_table.specs.Slots.{holder_of, entity_at, free_of, IsEachOnce, AreFree}
+use Rattle.entity_table.specs.Slots.{holder_of, versions_of, entity_at, free_of, AreVersions, IsEachOnce, AreFree}
+
+-- ---- a list with one more at its end
+
+top_is : (stack : List ℕ) (i : ℕ) → get_or (stack ++ i ∷ []) (length stack) 0 ≡ i
+top_is stack i = get_or-append_seam stack i [] 0
+
+at_below : (stack : List ℕ) (i j : ℕ) → j < length stack → get_or (stack ++ i ∷ []) j 0 ≡ get_or stack j 0
+at_below stack i j h = get_or_append_left stack (i ∷ []) 0 j h
 
 -- ---- one slot
 
@@ -23,6 +31,31 @@ version_from v w (Some q) p e = ap held_version e
 -- a slot of an alive entity has its version
 pub slot_version : (slot : Slot) (version : ℕ) (place : Place) → holder_of slot ≡ Some (record { version = version; place = place }) → slot.version ≡ version
 slot_version slot version place e = version_from slot.version version slot.place place e
+
+-- ---- the versions
+
+-- all versions are at least 1 with another one that is written at an index, or pushed
+pub versions_set : (versions : List ℕ) (i v : ℕ) → AreVersions versions → 1 ≤ v → AreVersions (set versions i v)
+versions_set versions i v all some k below =
+    elim (cases_eq k i) [
+      | inl same ↦ rw (same, get_or-set_same versions i v 0 (omega (arith, same, below, length-set versions i v))) some
+      | inr other ↦ rw (get_or-set_other versions i k v 0 other) (all k (omega (arith, below, length-set versions i v)))
+    ]
+
+pub versions_pushed : (versions : List ℕ) (v : ℕ) → AreVersions versions → 1 ≤ v → AreVersions (versions ++ v ∷ [])
+versions_pushed versions v all some k below =
+    elim (cases_lt k (length versions)) [
+      | inl before ↦ rw (at_below versions v k before) (all k before)
+      | inr after ↦
+          let e : k ≡ length versions = omega (arith, below, after, length-append versions (v ∷ [])) in
+          rw (e, top_is versions v) some
+    ]
+
+-- the version of a slot that was made
+pub version_at : (slots : List Slot) (slot : Slot) (i : ℕ) → AreVersions (versions_of slots) → slot ≡ get_or slots i slot → i < length slots → 1 ≤ slot.version
+version_at slots slot i all read below =
+    subst (λ (v : ℕ). 1 ≤ v) (get_or-map (λ (s : Slot). s.version) slots i slot 0 below ∙ sym (ap (λ (s : Slot). s.version) read))
+    (all i (omega (arith, below, length-map slots (λ (s : Slot). s.version))))
 
 -- ---- how many are alive
 
@@ -73,12 +106,6 @@ pub free_stays : (holders : List (Option Holder)) (stack : List ℕ) (i : ℕ) (
     → ((j : ℕ) → j < length stack → get_or stack j 0 ≢ i) → AreFree (set holders i held) stack
 free_stays holders stack i held free apart j below =
     (omega (arith, (free j below).0, length-set holders i held), get_or-set_other holders i (get_or stack j 0) held None (apart j below) ∙ (free j below).1)
-
-top_is : (stack : List ℕ) (i : ℕ) → get_or (stack ++ i ∷ []) (length stack) 0 ≡ i
-top_is stack i = get_or-append_seam stack i [] 0
-
-at_below : (stack : List ℕ) (i j : ℕ) → j < length stack → get_or (stack ++ i ∷ []) j 0 ≡ get_or stack j 0
-at_below stack i j h = get_or_append_left stack (i ∷ []) 0 j h
 
 pub free_pushed : (holders : List (Option Holder)) (stack : List ℕ) (i : ℕ) → AreFree holders stack → i < length holders → get_or holders i None ≡ None → AreFree holders (stack ++ i ∷ [])
 free_pushed holders stack i free within none j below =

@@ -1,11 +1,11 @@
 -- The entity table: a finite map from the alive entities to their places, with what is given to new entities.
-use Rattle.std.specs.Prelude.{◌≡◌, ◌≢◌, ℕ, ◌-◌, ◌<◌, ◌≤◌, max, List, [], ◌∷◌, ◌++◌, length, Option, Some, None, is_some, IsSome, Result, Ok, Err, count_by, slice_index_or, slice_set, if◌then◌else◌, ◌==◌, nat_lt}
+use Rattle.std.specs.Prelude.{◌≡◌, ◌≢◌, ℕ, ◌+◌, ◌<◌, ◌≤◌, max, List, [], ◌∷◌, ◌++◌, length, Option, Some, None, is_some, IsSome, Result, Ok, Err, count_by, slice_index_or, slice_set, if◌then◌else◌, ◌==◌, nat_lt}
 use Rattle.ent_types.specs.declared.entity.Entity.{Entity}
 use Rattle.world_model.specs.Enter.{Given, take_id}
 use Rattle.entity_table.specs.Ids.{give_id, room_of}
 use Rattle.entity_table.specs.declared.table.Place.{Place}
-use Rattle.entity_table.specs.declared.fault.TableFault.{TableFault}
-use Rattle.entity_table.specs.declared.fault.TableFault.TheVariants.{Full, Memory}
+use Rattle.entity_table.specs.declared.table.TableFault.{TableFault}
+use Rattle.entity_table.specs.declared.table.TableFault.TheVariants.{Full, Memory}
 
 -- the alive entity at an index: its version and its place
 pub record Holder : Type 0 where
@@ -13,12 +13,19 @@ pub record Holder : Type 0 where
   pub place : Place
 
 -- A table: for each index made the alive entity there, if there is one; the free entities, the one freed last first;
--- the version of a fresh index; and how many entities may be made without asking for memory.
+-- and the version of a fresh index
 pub record Table : Type 0 where
   pub holders : List (Option Holder)
   pub free : List Entity
   pub first_version : ℕ
+
+-- what contracts see: the table and, beside it, for how many more entities there is memory
+pub record Spared : Type 0 where
+  pub table : Table
   pub spare : ℕ
+
+abbrev pub empty_table : ℕ → Table
+empty_table first_version = record { holders = []; free = []; first_version = first_version }
 
 -- the place that a holder gives to an entity of this version
 abbrev pub place_at : ℕ → Option Holder → Option Place
@@ -56,7 +63,6 @@ with_made table place = record {
   holders = put_holder table.holders (given_by table).entity.index (Some (record { version = (given_by table).entity.version; place = place }));
   free = (given_by table).free;
   first_version = table.first_version;
-  spare = table.spare - 1;
 }
 
 -- the table after an alive entity ended
@@ -67,13 +73,23 @@ without table e = record table { holders = slice_set table.holders e.index None;
 abbrev pub with_place : Table → Entity → Place → Table
 with_place table e place = record table { holders = slice_set table.holders e.index (Some (record { version = e.version; place = place })) }
 
+-- the alive entities with their places, by rising index, at these indexes from one on
+abbrev pub living_from : ℕ → List (Option Holder) → List (Entity × Place)
+living_from index [] = []
+living_from index (None ∷ holders) = living_from (index + 1) holders
+living_from index (Some holder ∷ holders) = (record { index = index; version = holder.version }, holder.place) ∷ living_from (index + 1) holders
+
+-- the alive entities with their places, by rising index
+abbrev pub living : Table → List (Entity × Place)
+living table = living_from 0 table.holders
+
 -- as a finite map: the entity has this place, or none, and all others are as before
 pub record Rebinds (old new : Table) (e : Entity) (place : Option Place) : Type 0 where
   pub there : place_of new e ≡ place
   pub others : (other : Entity) → other ≢ e → place_of new other ≡ place_of old other
 
--- what `reserve` answers: room for n more, or Full exactly where n is above the room; after a fault all is as before
-abbrev pub Reserves : Table → ℕ → Table → Result (Unit {0}) TableFault → Type 0
-Reserves old n new (Ok done) = (n ≤ room old) × (new ≡ record old { spare = max old.spare n })
-Reserves old n new (Err Full) = (room old < n) × (new ≡ old)
-Reserves old n new (Err Memory) = (n ≤ room old) × (new ≡ old)
+-- what `reserve` returns: memory for n more, or Full if and only if n is above the room; after a fault all is as before
+abbrev pub Reserves : Spared → ℕ → Spared → Result (Unit {0}) TableFault → Type 0
+Reserves old n new (Ok done) = (n ≤ room old.table) × (new ≡ record old { spare = max old.spare n })
+Reserves old n new (Err Full) = (room old.table < n) × (new ≡ old)
+Reserves old n new (Err Memory) = (n ≤ room old.table) × (new ≡ old)

@@ -1,8 +1,8 @@
-//! The entity table: which entities are alive and where their rows stand, and which entities come next.
+//! The entity table: which entities are alive and where their rows are, and which entities come next.
 #![tactic(auto)]
 
-pub use fault::TableFault;
-pub use table::{EntityTable, Place};
+pub use living::Living;
+pub use table::{EntityTable, Place, TableFault};
 
-mod fault;
+mod living;
 mod table;

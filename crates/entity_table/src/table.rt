@@ -1,21 +1,18 @@
 //! One slot for each index that was made, and a stack of the free indexes.
-ghost use Rattle.std.specs.Prelude.{◌≡◌, ◌+◌, ◌≤◌, ◌<◌, [], None, Some};
+ghost use Rattle.std.specs.Prelude.{◌≡◌, ◌+◌, ◌-◌, ◌≤◌, ◌<◌, None, Some, OnSome};
 ghost use Rattle.entity_table.specs.Ids.{ahead_of};
-ghost use Rattle.entity_table.specs.Table.{Table, place_of, IsAlive, alive_count, made, room, given_by, with_made, without, with_place, Rebinds, Reserves};
+ghost use Rattle.entity_table.specs.Table.{empty_table, place_of, IsAlive, alive_count, made, room, given_by, living, with_made, without, with_place, Rebinds, Reserves};
+ghost use Rattle.entity_table.specs.declared.table.TableFault.TheVariants.{Memory as OutOfMemory};
 
-use crate::TableFault;
+use crate::Living;
+use ent_types::limits::{MOST_ENTITIES, MOST_INDEXES};
 use ent_types::{Entity, Steps};
-use std::alloc::Global;
+use std::alloc::{AllocError, Global};
 use std::marker::Model;
 use std::sync::ledger::Ledger;
+use thiserror::Error;
 
-/// The most entities that are alive at once.
-const MOST_ALIVE: u32 = 1_048_576;
-
-/// The most indexes that are ever made.
-const MOST_INDEXES: u32 = 4_194_304;
-
-/// Where an entity's row stands.
+/// Where an entity's row is.
 #[derive(Clone, Copy, Debug, PartialEq, Eq)]
 pub struct Place {
     /// The number of the block.
@@ -24,19 +21,46 @@ pub struct Place {
     pub row: u32,
 }
 
-/// What is kept for an index: the version of the entity that has it or will have it next, and the place
-/// of that entity's row where it is alive.
+/// Why [`EntityTable::reserve`] refused.
+#[derive(Clone, Copy, Debug, PartialEq, Eq, Error)]
+pub enum TableFault {
+    /// More entities were asked for than the table has room for.
+    #[error("no room for more entities")]
+    Full,
+    /// Memory ran out.
+    #[error("out of memory")]
+    Memory,
+}
+
+impl From<AllocError> for TableFault {
+    ghost from_gives = { λ _ fault. fault ≡ OutOfMemory };
+
+    fn from(_: AllocError) -> TableFault {
+        TableFault::Memory
+    }
+}
+
+/// What is kept for an index: the version of the entity that has it or will have it next, and the place of that
+/// entity's row while it is alive.
 #[derive(Clone, Copy, Debug)]
-struct Slot {
-    version: u32,
-    place: Option<Place>,
+pub(crate) struct Slot {
+    pub(crate) version: u32,
+    pub(crate) place: Option<Place>,
 }
 
 /// A finite map from the alive entities to the places of their rows, with the entities to come.
 ///
-/// An entity is alive only where the version at its index equals its own (Unity's behaviour). That the
-/// index freed last is given first, that fresh versions begin at a first one, that an index with the last
-/// version is retired, and the limits are this project's own.
+/// An entity is alive only while the version at its index equals its own, as in Unity. These rules are entsim's own:
+/// the index freed last is given first, fresh indexes get a first version, an index with the last version is
+/// retired, and at most [`MOST_ENTITIES`] entities are alive on [`MOST_INDEXES`] indexes.
+///
+/// ```text
+/// table.reserve(1)?;
+/// let e = table.make(place);
+/// assert_eq!(table.place_of(e), Some(place));
+/// table.free(e);
+/// assert_eq!(table.place_of(e), None);
+/// ```
 #[derive(Drop)]
 pub struct EntityTable {
     slots: Vec<Slot>,
@@ -47,22 +71,22 @@ pub struct EntityTable {
 }
 
 impl Model for EntityTable {
-    ghost use Rattle.entity_table.specs.Table.{Table};
+    ghost use Rattle.entity_table.specs.Table.{Spared};
 
-    ghost Value = { Table };
+    ghost Value = { Spared };
 
-    ghost use Rattle.entity_table.specs.Slots.{table_of, IsConsistent};
+    ghost use Rattle.entity_table.specs.Slots.{spared_of, IsConsistent};
 
-    ghost view = { table_of };
+    ghost view = { spared_of };
 
     ghost invariant = { IsConsistent };
 }
 
 impl EntityTable {
-    /// The table of no entity, whose fresh indexes have this version. It takes no memory.
+    /// Returns the table of no entity, whose fresh indexes get this version. It takes no memory.
     pub fn new(alloc: Global, first_version: u32) -> EntityTable
         requires { 1 ≤ first_version }
-        ensures { result ≡ record { holders = []; free = []; first_version = first_version; spare = 0 } }
+        ensures { result ≡ record { table = empty_table first_version; spare = 0 } }
     {
         EntityTable {
             slots: Vec::new(alloc),
@@ -73,25 +97,26 @@ impl EntityTable {
         }
     }
 
-    /// How many entities are alive.
+    /// Counts the alive entities, in one step.
     pub fn alive_count(&self) -> u32
-        ensures value { result ≡ alive_count self.now }
-        ensures bound { result ≤ 1048576 }
+        ensures value { result ≡ alive_count self.now.table }
+        ensures bound { result ≤ MOST_ENTITIES }
     {
         self.alive
     }
 
-    /// How many more entities can be made.
+    /// Counts how many more entities can be made.
     pub fn room(&self) -> u32
-        ensures value { result ≡ room self.now }
+        ensures value { result ≡ room self.now.table }
         ensures spare { self.now.spare ≤ result }
+        ensures made { made self.now.table ≤ MOST_INDEXES }
     {
         let indexes = self.free.len() as u32 + (MOST_INDEXES - self.slots.len() as u32);
-        (MOST_ALIVE - self.alive).min(indexes)
+        (MOST_ENTITIES - self.alive).min(indexes)
     }
 
-    /// Makes sure that `n` more calls of `make`, and the calls of `free` for their entities, need no
-    /// memory. `Full` comes exactly where `n` is above the room. After a fault all is as before.
+    /// Takes the memory that `n` more calls of `make`, and the calls of `free` for their entities, need. It returns
+    /// `Full` if and only if `n` is above the room. After a fault all is as before.
     pub fn reserve(&mut self, n: u32) -> Result<(), TableFault>
         ensures { Reserves self.old n self.new result }
     {
@@ -109,14 +134,17 @@ impl EntityTable {
         Ok(())
     }
 
-    /// Makes the next entity alive at a place: the one that was freed last, or, where none is free, the
-    /// next fresh index with the first version. It needs a spare and takes no memory.
+    /// Makes the next entity alive at a place: the one that was freed last or, if none is free, the next fresh index
+    /// with the first version. It takes no memory: call `reserve` before.
     pub fn make(&mut self, place: Place) -> Entity
         requires { 1 ≤ self.old.spare }
-        ensures value { result ≡ (given_by self.old).entity }
-        ensures table { self.new ≡ with_made self.old place }
-        ensures fresh { place_of self.old result ≡ None }
-        ensures map { Rebinds self.old self.new result (Some place) }
+        ensures value { result ≡ (given_by self.old.table).entity }
+        ensures table { self.new.table ≡ with_made self.old.table place }
+        ensures spare { self.new.spare ≡ self.old.spare - 1 }
+        ensures version { 1 ≤ result.version }
+        ensures made { made self.new.table ≤ MOST_INDEXES }
+        ensures fresh { place_of self.old.table result ≡ None }
+        ensures map { Rebinds self.old.table self.new.table result (Some place) }
     {
         self.spare -= 1;
         self.alive += 1;
@@ -141,12 +169,13 @@ impl EntityTable {
         }
     }
 
-    /// Ends an alive entity. Its index is given next, with the version raised by 1, but for the last
-    /// version, whose index is retired. It takes no memory.
+    /// Ends an alive entity. Its index is given next, with the version raised by 1; an index with the last version
+    /// is retired instead. It takes no memory.
     pub fn free(&mut self, e: Entity)
-        requires { IsAlive self.old e }
-        ensures table { self.new ≡ without self.old e }
-        ensures map { Rebinds self.old self.new e None }
+        requires { IsAlive self.old.table e }
+        ensures table { self.new.table ≡ without self.old.table e }
+        ensures spare { self.new.spare ≡ self.old.spare }
+        ensures map { Rebinds self.old.table self.new.table e None }
     {
         self.alive -= 1;
         let slot = &mut self.slots[e.index as usize];
@@ -157,12 +186,11 @@ impl EntityTable {
         }
     }
 
-    /// The place of an entity; `None` exactly where it isn't alive. It takes one step.
-    pub fn find<L: Ledger>(&self, e: Entity, steps: &mut Steps<L>) -> Option<Place>
-        ensures value { result ≡ place_of self.now e }
-        ensures step { steps.new ≡ steps.old + 1 }
+    /// Returns the place of an entity, or `None` if and only if it isn't alive. `Entity::NULL` never is.
+    pub fn place_of(&self, e: Entity) -> Option<Place>
+        ensures value { result ≡ place_of self.now.table e }
+        ensures version { OnSome result (1 ≤ e.version) }
     {
-        steps.tick();
         let slot = self.slots.get(e.index as usize)?;
         if slot.version == e.version {
             slot.place
@@ -171,19 +199,37 @@ impl EntityTable {
         }
     }
 
-    /// Notes that the row of an alive entity has gone to another place.
+    /// Returns the place of an entity as [`EntityTable::place_of`] does, and counts one step.
+    pub fn find<L: Ledger>(&self, e: Entity, steps: &mut Steps<L>) -> Option<Place>
+        ensures value { result ≡ place_of self.now.table e }
+        ensures version { OnSome result (1 ≤ e.version) }
+        ensures step { steps.new ≡ steps.old + 1 }
+    {
+        steps.tick();
+        self.place_of(e)
+    }
+
+    /// Walks the alive entities with the places of their rows, by rising index.
+    pub fn living(&self) -> Living<'_>
+        ensures { result ≡ living self.now.table }
+    {
+        Living::new(&self.slots, 0)
+    }
+
+    /// Notes that the row of an alive entity has moved to another place.
     pub fn put_place(&mut self, e: Entity, place: Place)
-        requires { IsAlive self.old e }
-        ensures table { self.new ≡ with_place self.old e place }
-        ensures map { Rebinds self.old self.new e (Some place) }
+        requires { IsAlive self.old.table e }
+        ensures table { self.new.table ≡ with_place self.old.table e place }
+        ensures spare { self.new.spare ≡ self.old.spare }
+        ensures map { Rebinds self.old.table self.new.table e (Some place) }
     {
         self.slots[e.index as usize].place = Some(place);
     }
 
-    /// The entity that `make` gives after `k` further calls of `make`.
+    /// Returns the entity that `make` returns after `k` further calls of `make`.
     pub fn ahead(&self, k: u32) -> Entity
-        requires { k < room self.now }
-        ensures { result ≡ ahead_of k self.now.free (made self.now) self.now.first_version }
+        requires { k < room self.now.table }
+        ensures { result ≡ ahead_of k self.now.table.free (made self.now.table) self.now.table.first_version }
     {
         let k = k as usize;
         let free = self.free.len();
@@ -200,6 +246,3 @@ impl EntityTable {
         }
     }
 }
-
-#[cfg(test)]
-mod tests;

@@ -4,7 +4,7 @@ use Rattle.std.proofs.lemmas.Bool.{cases_lt}
 use mathlib.Core.Option.{some, none}
 use lib.ListN.{get_elem?}
 use Rattle.atomic_table.specs.Table.{State, Me, step, Act, takes, keeps, Valid, stepped, carried_after, rest, Allows, Splits, Joins}
-use Rattle.job_claims.specs.declared.view.View.{View}
+use Rattle.job_claims.specs.declared.seat.View.{View}
 use Rattle.job_claims.specs.Views.{spent, after_split, split_off, with_drawn, with_end, joined}
 use Rattle.job_claims.specs.Rule.{times, Keeps, IsKept, Draws}
 use Rattle.job_claims.proofs.Steps.{Found, found, word_small, ended_keeps, split_keeps, move_keeps, join_keeps}

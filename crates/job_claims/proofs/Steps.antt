@@ -4,7 +4,7 @@ use Rattle.std.proofs.lemmas.List.{length-map}
 use mathlib.Core.Option.{some, none, some-injective, some-ne-none}
 use lib.ListN.{get_elem?}
 use Rattle.atomic_table.proofs.Lists.{at_set, set_else, at_snoc}
-use Rattle.job_claims.specs.declared.view.View.{View}
+use Rattle.job_claims.specs.declared.seat.View.{View}
 use Rattle.job_claims.specs.Views.{opened, spent, after_split, split_off, with_drawn, with_end, joined}
 use Rattle.job_claims.specs.Rule.{times, total, once_below, weight_going, Keeps, IsEachOnce}
 use Rattle.job_claims.proofs.Totals.{total-set, total-snoc, total-one, total-alone, times-append, once_below-more, once_below-same}

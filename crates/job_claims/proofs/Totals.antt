@@ -2,7 +2,7 @@
 use Rattle.std.proofs.Common.{◌≡◌, ℕ, zero, suc, ◌+◌, ◌≤◌, List, [], ◌∷◌, ◌++◌, set, refl, sym, ap, arith, cond, eqb}
 use mathlib.Core.Option.{some, some-injective, some-ne-none}
 use lib.ListN.{get_elem?}
-use Rattle.job_claims.specs.declared.view.View.{View}
+use Rattle.job_claims.specs.declared.seat.View.{View}
 use Rattle.job_claims.specs.Rule.{times, total, once_below}
 
 module _ {T : Type 0} where

@@ -1,8 +1,8 @@
--- What a clause sees of a seat.
+-- The value of a seat in a contract.
 use Rattle.atomic_table.specs.Seated.{TableId}
-use Rattle.job_claims.specs.declared.view.View.{View}
+use Rattle.job_claims.specs.declared.seat.View.{View}
 
--- whose seat it is, and what it knows
+-- the table of a seat, and its view
 pub record Held (T : Type 0) : Type 0 where
   pub table : TableId
   pub view : View T

@@ -1,14 +1,14 @@
--- The rule of the claims, which holds between any two steps of any threads, and what a draw tells.
+-- The rule of the claims, which holds between any two steps of any threads, and the result of a draw.
 use Rattle.std.specs.Prelude.{◌≡◌, ℕ, ◌+◌, ◌<◌, ◌≤◌, ◌⊎◌, true, false, nat_lt, ◌==◌, if◌then◌else◌, List, [], ◌∷◌, length, slice_index, slice_get, min, Option, Some}
 use mathlib.Core.Option.{some}
 use lib.ListN.{get_elem?}
 use Rattle.atomic_table.specs.Table.{State, Me, Step}
 use Rattle.job_claims.specs.declared.seat.Drawn.{Drawn}
 use Rattle.job_claims.specs.declared.seat.Drawn.TheVariants.{Piece, Ended}
-use Rattle.job_claims.specs.declared.view.View.{View}
+use Rattle.job_claims.specs.declared.seat.View.{View}
 use Rattle.job_claims.specs.Views.{spent, with_drawn, with_end}
 
--- how often x stands in a list
+-- how often x is in a list
 abbrev pub times : ℕ → List ℕ → ℕ
 times x [] = 0
 times x (y ∷ ys) = (if x == y then 1 else 0) + times x ys
@@ -16,7 +16,7 @@ times x (y ∷ ys) = (if x == y then 1 else 0) + times x ys
 abbrev pub once_below : ℕ → ℕ → ℕ
 once_below x n = if nat_lt x n then 1 else 0
 
--- the numbers below n each stand in a list once, and no others
+-- each number below n is in a list once, and no other number is
 abbrev pub IsEachOnce : ℕ → List ℕ → Type 0
 IsEachOnce n xs = (x : ℕ) → times x xs ≡ once_below x n
 
@@ -29,7 +29,7 @@ module _ {T : Type 0} where
   abbrev pub weight_going : View T → ℕ
   weight_going v = if v.ended then 0 else v.weight
 
-  -- n is the number of slots, and `word` what the claim word is
+  -- n is the number of slots, and `word` the claim word
   pub record Keeps (n word : ℕ) (homes : List (mathlib.Core.Option.Option (Option T))) (views : List (View T)) : Type 0 where
     pub pieces : List T
     pub count : length pieces ≡ n
@@ -57,7 +57,7 @@ module _ {T : Type 0} where
       × ((p : T) × (slice_get me.0.pieces k ≡ Some p) × (after ≡ (with_drawn me.0 k, (k, Some p) ∷ me.1))))
       ⊎ ((step.slots ≤ k) × (after ≡ (with_end me.0, me.1)))
 
-  -- what a draw gives: the piece of a number that the seat didn't have; or nothing, where no piece was left, or where the seat was ended, which then takes no step
+  -- the result of a draw: the piece of a number that the seat didn't have; or nothing, if no piece was left, or the seat was ended and took no step
   abbrev pub Gives : View T → Drawn T → View T → Type 0
   Gives v (Piece k p) w =
       (v.ended ≡ false) × (times k v.mine ≡ 0) × (length v.mine < length v.pieces)

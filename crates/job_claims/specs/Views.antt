@@ -1,6 +1,6 @@
--- What a seat knows, and how a step changes it.
+-- The views of seats, and how a step changes them.
 use Rattle.std.specs.Prelude.{ℕ, ◌+◌, ◌-◌, true, false, ◌||◌, List, [], ◌∷◌, ◌++◌}
-use Rattle.job_claims.specs.declared.view.View.{View}
+use Rattle.job_claims.specs.declared.seat.View.{View}
 
 module _ {T : Type 0} where
   -- the first seat's view: all the weight, and nothing drawn

@@ -1,12 +1,12 @@
-// The rule of the table, and what its steps tell and change.
+//! The rule of the table, and its steps.
 ghost use Rattle.job_claims.specs.Views.{opened, spent, after_split, split_off, joined};
 ghost use Rattle.job_claims.specs.Rule.{IsKept, Draws};
 
-use crate::view::View;
+use crate::seat::View;
 use atomic_table::{Join, Play, Split, TableRule};
 use std::snapshot::Snapshot;
 
-/// The rule of the claims. The key shows the pieces as they were opened.
+/// The rule of the claims. The key has the pieces as they were opened.
 pub struct Claims;
 
 impl<T> TableRule<Option<T>, View<T>, Snapshot<Vec<T>>> for Claims {

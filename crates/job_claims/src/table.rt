@@ -1,4 +1,4 @@
-// The table.
+//! The table of pieces.
 ghost use Rattle.std.specs.Prelude.{◌≡◌, ◌^◌, ◌<◌, false, length, map, IfOk, IsTrue};
 ghost use Rattle.std.specs.Slots.{IsFull};
 ghost use mathlib.Core.Option.{none};
@@ -7,18 +7,14 @@ ghost use Rattle.job_claims.specs.Views.{opened, after_split, split_off, joined}
 ghost use Rattle.job_claims.specs.Rule.{Draws, Gives, IsEachOnce};
 
 use crate::rule::{Both, Claims, Draw, Move, Share};
-use crate::seat::{ClaimSeat, Drawn};
-use crate::view::View;
+use crate::seat::{ClaimSeat, Drawn, View};
 use atomic_table::{Closed, Seat, Table};
 use ent_types::Memory;
 use std::alloc::{AllocError, Global};
 use std::marker::Model;
 use std::snapshot::Snapshot;
 
-#[cfg(test)]
-mod tests;
-
-/// Pieces that any number of threads draw from, each once.
+/// Pieces that up to 64 threads draw, each piece once.
 #[derive(Drop)]
 pub struct ClaimTable<T> {
     table: Table<Option<T>, View<T>, Snapshot<Vec<T>>, Claims, Global>,
@@ -38,7 +34,7 @@ impl<T> Model for ClaimTable<T> {
 }
 
 impl<T> ClaimTable<T> {
-    /// A table of these pieces, and its first seat. After `Memory` the pieces are dropped.
+    /// Returns a table of these pieces, and its first seat. After `Memory` the pieces are dropped.
     pub fn new(alloc: Global, items: Vec<T>) -> Result<(ClaimTable<T>, ClaimSeat<T>), Memory>
     where
         T: Drop,
@@ -53,8 +49,7 @@ impl<T> ClaimTable<T> {
         }
     }
 
-    /// A seat for another thread. It knows what `seat` knows, has drawn nothing, and takes over one weight of `seat`.
-    /// There can be 64 seats.
+    /// Returns a seat for another thread. It has drawn nothing, and has one weight of `seat`. There can be 64 seats.
     pub fn split(&self, seat: &mut ClaimSeat<T>) -> ClaimSeat<T>
         requires own { seat.old.table ≡ self.now }
         requires room { 1 < seat.old.view.weight }
@@ -67,8 +62,8 @@ impl<T> ClaimTable<T> {
         }
     }
 
-    /// The next piece that nobody has drawn, if one is left. A seat that was answered `Ended` is answered so from then
-    /// on, and takes no further step.
+    /// Draws the next piece, if one is left. A seat that was answered `Ended` is always answered so, and takes no
+    /// further step.
     ///
     /// It waits for nobody and takes no memory.
     pub fn draw(&self, seat: &mut ClaimSeat<T>) -> Drawn<T>
@@ -90,7 +85,7 @@ impl<T> ClaimTable<T> {
         Drawn::Piece(number as u32, piece.unwrap())
     }
 
-    // The one atomic step of a draw: the claim word is raised by 1, and what it was is the number.
+    /// Raises the claim word by 1, and returns the number that it had: the one atomic step of a draw.
     #[tactic(auto, using(crate::proofs::Allowed::draw_allowed))]
     fn take_number(&self, seat: &mut Seat<Option<T>, View<T>>) -> u64
         requires own { seat.old.table_id ≡ self.now }
@@ -101,7 +96,7 @@ impl<T> ClaimTable<T> {
         self.table.shared.fetch_add::<Draw>(seat, 0, 1)
     }
 
-    /// `into` takes in all that `from` knows and drew.
+    /// Gives `into` all that `from` knows and drew.
     pub fn join_seats(&self, into: &mut ClaimSeat<T>, from: ClaimSeat<T>)
         requires own { (into.old.table ≡ self.now) × (from.table ≡ self.now) }
         ensures { into.new ≡ record into.old { view = joined into.old.view from.view } }
@@ -113,7 +108,7 @@ impl<T> ClaimTable<T> {
         into.ended |= ended;
     }
 
-    /// Gives up the table. The last seat has drawn each number once.
+    /// Ends the table. All seats together have drawn each number once.
     pub fn close(self, seat: ClaimSeat<T>)
     where
         T: Drop,
@@ -128,14 +123,14 @@ impl<T> ClaimTable<T> {
     }
 }
 
-// The slots, each with its piece.
+/// Returns the slots, each with its piece.
 fn at_home<T: Drop>(alloc: Global, items: Vec<T>) -> Result<Vec<Option<T>>, AllocError>
     ensures { IfOk result (λ slots. slots.items ≡ map (λ x. Some x) items.items) }
 {
     items.into_iter().map(Some).collect(alloc)
 }
 
-// Drops what the slots hold, and frees the memory.
+/// Drops the pieces that the slots still hold, and frees the memory.
 fn clear<T: Drop>(mut closed: Closed<Option<T>, Global>)
     requires { IsFull closed.slots }
 {

@@ -6,10 +6,10 @@ use Rattle.std.proofs.lemmas.Option.{slice_get_within, slice_get-map, slice_get_
 use Rattle.std.proofs.lemmas.Bool.{cases_lt, cases_eq}
 use Rattle.phase_core.specs.Work.{Work, after_row, run_to_end}
 use Rattle.phase_core.specs.Core.{Core, opening, is_lawful, after, with_worker, with_row_run, rows_of, ran_of, Holds, HasRun, IsHeldOrRun, IsKept, IsFinished, IsSound, AllLawful, after_all, FaultComes, StopsAt}
-use Rattle.phase_core.specs.declared.step.StepFault.{StepFault}
-use Rattle.phase_core.specs.declared.step.StepOf.{StepOf}
-use Rattle.phase_core.specs.declared.step.WorkerState.{WorkerState}
-use Rattle.phase_core.specs.declared.step.WorkerState.TheVariants.{Idle, AtRow, Ended}
+use Rattle.phase_core.specs.declared.machine.StepFault.{StepFault}
+use Rattle.phase_core.specs.declared.machine.StepOf.{StepOf}
+use Rattle.phase_core.specs.declared.machine.WorkerState.{WorkerState}
+use Rattle.phase_core.specs.declared.machine.WorkerState.TheVariants.{Idle, AtRow, Ended}
 use Rattle.phase_core.proofs.Lookups.{split_at, some_same, option_map-none_run, get-set_same, get-set_other, get-set_cases, get-replicate, get-all, same_lookups, length-with_row_run, get-with_row_run_same, get-with_row_run_other, rows_of-run, ran_of-run, option_map-after_rows, option_map-run_to_end}
 
 -- two workers that stand differently are two

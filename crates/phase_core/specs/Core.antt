@@ -1,15 +1,15 @@
--- The phase machine as plain data: its steps, which of them are lawful, and what holds however they are ordered.
+-- The phase machine as plain data: its steps, which of them are lawful, and what holds in every order.
 use Rattle.std.specs.Prelude.{◌≡◌, ℕ, zero, suc, ◌+◌, ◌<◌, ◌≤◌, ◌⊎◌, Bool, true, false, List, [], ◌∷◌, ◌++◌, length, map, replicate, slice_get, slice_set, nat_lt, ◌==◌, if◌then◌else◌, Option, None, Some, All}
 use Rattle.std.specs.Option.{option_map, option_map_or}
 use Rattle.phase_core.specs.Work.{Work, after_row, after_rows, run_to_end}
-use Rattle.phase_core.specs.declared.step.StepOf.{StepOf}
-use Rattle.phase_core.specs.declared.step.StepOf.TheVariants.{Draw, Row, Drop}
-use Rattle.phase_core.specs.declared.step.StepFault.{StepFault}
-use Rattle.phase_core.specs.declared.step.StepFault.TheVariants.{NotAllowed, Memory}
-use Rattle.phase_core.specs.declared.step.WorkerState.{WorkerState}
-use Rattle.phase_core.specs.declared.step.WorkerState.TheVariants.{Idle, AtRow, Ended}
+use Rattle.phase_core.specs.declared.machine.StepOf.{StepOf}
+use Rattle.phase_core.specs.declared.machine.StepOf.TheVariants.{Draw, Row, Drop}
+use Rattle.phase_core.specs.declared.machine.StepFault.{StepFault}
+use Rattle.phase_core.specs.declared.machine.StepFault.TheVariants.{NotAllowed, Memory}
+use Rattle.phase_core.specs.declared.machine.WorkerState.{WorkerState}
+use Rattle.phase_core.specs.declared.machine.WorkerState.TheVariants.{Idle, AtRow, Ended}
 
--- The items as they were opened and as they are, the number that is drawn next, and where each worker stands
+-- The items as they were opened and as they are, the number that is drawn next, and the state of each worker
 pub record Core (C : Type 0) : Type 0 where
   pub opened : List (Work C)
   pub items : List (Work C)
@@ -31,7 +31,7 @@ IsRow (Draw w) = ⊥
 IsRow (Row w) = Unit {0}
 IsRow (Drop w) = ⊥
 
--- worker w holds item k, and stands at its row r
+-- worker w holds item k, at its row r
 abbrev pub Holds : List WorkerState → ℕ → ℕ → ℕ → Type 0
 Holds workers w k r = slice_get workers w ≡ Some (AtRow k r)
 
@@ -44,21 +44,21 @@ module _ {C : Type 0} where
   abbrev pub ran_of : List (Work C) → ℕ → ℕ
   ran_of items k = option_map_or (λ w. w.ran) (slice_get items k) 0
 
-  -- a worker stands at a row that there is
+  -- a worker is at a row that its item has
   abbrev pub is_before_row : List (Work C) → Option WorkerState → Bool
   is_before_row items (Some Idle) = false
   is_before_row items (Some (AtRow k r)) = nat_lt r (rows_of items k)
   is_before_row items (Some Ended) = false
   is_before_row items None = false
 
-  -- a worker stands at the end of its item
+  -- a worker is at the end of its item
   abbrev pub is_at_end : List (Work C) → Option WorkerState → Bool
   is_at_end items (Some Idle) = false
   is_at_end items (Some (AtRow k r)) = r == rows_of items k
   is_at_end items (Some Ended) = false
   is_at_end items None = false
 
-  -- whether the machine takes a step
+  -- true if the machine takes a step
   abbrev pub is_lawful : Core C → StepOf → Bool
   is_lawful c (Draw w) = is_idle (slice_get c.workers w)
   is_lawful c (Row w) = is_before_row c.items (slice_get c.workers w)
@@ -93,7 +93,7 @@ module _ {C : Type 0} where
   after_all c [] = c
   after_all c (x ∷ xs) = after_all (after c x) xs
 
-  -- each step is lawful where it is taken
+  -- each step is lawful when it is taken
   abbrev pub AllLawful : Core C → List StepOf → Type 0
   AllLawful c [] = Unit {0}
   AllLawful c (x ∷ xs) = (is_lawful c x ≡ true) × AllLawful (after c x) xs
@@ -102,11 +102,11 @@ module _ {C : Type 0} where
   abbrev pub Takes : Core C → StepOf → Core C → Type 0
   Takes c x d = (is_lawful c x ≡ true) × (d ≡ after c x)
 
-  -- the steps were taken one after the other, each lawful where it was taken
+  -- the steps were taken one after the other, each lawful when it was taken
   abbrev pub TakesAll : Core C → List StepOf → Core C → Type 0
   TakesAll c xs d = AllLawful c xs × (d ≡ after_all c xs)
 
-  -- when each fault comes: the step isn't lawful, or it is a lawful row, which found no memory
+  -- when each fault comes: the step isn't lawful, or it is a lawful row that ran out of memory
   abbrev pub FaultComes : Core C → StepOf → StepFault → Type 0
   FaultComes c x NotAllowed = is_lawful c x ≡ false
   FaultComes c x Memory = (is_lawful c x ≡ true) × IsRow x
@@ -144,7 +144,7 @@ module _ {C : Type 0} where
     pub alone : (v w k q r : ℕ) → Holds c.workers v k q → Holds c.workers w k r → v ≡ w
     pub ended : (w : ℕ) → slice_get c.workers w ≡ Some Ended → c.next ≡ length c.items
 
-  -- where every worker is ended, each item has run to its end
+  -- if every worker is ended, each item has run to its end
   abbrev pub IsFinished : Core C → Type 0
   IsFinished c = All (λ at. at ≡ Ended) c.workers → c.items ≡ map run_to_end c.opened
 

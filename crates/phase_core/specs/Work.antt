@@ -1,7 +1,7 @@
--- What an item of a phase is to the machine.
+-- The meaning of an item of a phase.
 use Rattle.std.specs.Prelude.{ℕ, zero, suc, ◌+◌}
 
--- How many rows there are and how many of them have run, the content, and what row k makes of a content
+-- The count of rows, and of those that have run, the content, and the content that row k makes of another
 pub record Work (C : Type 0) : Type 0 where
   pub rows : ℕ
   pub ran : ℕ

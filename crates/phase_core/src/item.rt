@@ -1,23 +1,23 @@
-// What the machine knows of an item.
+//! The items of a phase.
 ghost use Rattle.std.specs.Prelude.{◌≡◌, ◌<◌, length, map, OnOk, OnErr};
 ghost use Rattle.phase_core.specs.Work.{Work, after_row};
 ghost use Rattle.phase_core.specs.Core.{rows_of, ran_of, with_row_run};
 
 use ent_types::Memory;
 
-/// An item of a phase: rows that are run one after the other, each changing the item's content.
+/// An item of a phase: rows that are run one after the other. Each row changes the item's content.
 pub trait ItemWork {
-    /// What the rows change. No value of it is made.
+    /// The content that the rows change. Only proofs have values of it.
     type Content;
 
-    // How many rows there are and how many have run, the content, and what each row makes of a content.
+    // The count of rows and of rows that have run, the content, and the content that each row makes of another.
     ghost work: { Self → Work Self.Content };
 
-    /// How many rows the item has.
+    /// Counts the rows of the item.
     fn rows(&self) -> u32
         ensures { result ≡ (work self.now).rows };
 
-    /// Runs row k, which has to be the next one. Rows count from 0.
+    /// Runs row `k`, which has to be the next one. Rows are numbered from 0.
     ///
     /// After `Memory` the item is as before.
     fn run_row(&mut self, k: u32) -> Result<(), Memory>
@@ -27,7 +27,7 @@ pub trait ItemWork {
         ensures err { OnErr result (work self.new ≡ work self.old) };
 }
 
-// How many rows item k has.
+/// Counts the rows of item `k`.
 pub(crate) fn rows_at<I: ItemWork>(items: &[I], k: usize) -> u32
     requires { k < length items.now }
     ensures { result ≡ rows_of (map I.work items.now) k }
@@ -35,7 +35,7 @@ pub(crate) fn rows_at<I: ItemWork>(items: &[I], k: usize) -> u32
     items[k].rows()
 }
 
-// Runs the next row of item k.
+/// Runs the next row of item `k`.
 pub(crate) fn run_row_at<I: ItemWork>(items: &mut [I], k: usize, row: u32) -> Result<(), Memory>
     requires there { k < length items.old }
     requires left { row < rows_of (map I.work items.old) k }

@@ -1,22 +1,58 @@
-// The machine.
+//! The machine: its steps, and the states of its workers.
 ghost use Rattle.std.specs.Prelude.{◌≡◌, ◌<◌, All, map, slice_get, IfOk, IfErr, OnOk, OnErr};
 ghost use Rattle.phase_core.specs.Core.{opening, Takes, TakesAll, FaultComes, StopsAt, IsSound};
 ghost use Rattle.phase_core.specs.Phase.{core_of};
+ghost use Rattle.phase_core.specs.declared.machine.StepFault.TheVariants.{Memory as OutOfMemory};
 
 use crate::item::{ItemWork, rows_at, run_row_at};
-use crate::step::{StepFault, StepOf, WorkerState};
 use ent_types::Memory;
 use std::alloc::Global;
 use std::marker::Model;
 use std::snapshot::Snapshot;
 
-#[cfg(test)]
-mod tests;
+/// One step of the worker with a number. Workers are numbered from 0.
+#[derive(Clone, Copy, Debug, PartialEq, Eq)]
+pub enum StepOf {
+    /// The idle worker takes the next item, at its first row, or ends if no item is left.
+    Draw(u32),
+    /// The worker runs the next row of its item.
+    Row(u32),
+    /// The worker puts down its item, which has no row left, and is idle then.
+    Drop(u32),
+}
 
-/// The items of a phase, the number that is drawn next, and where each worker stands.
+/// Why a step was not taken.
+#[derive(Clone, Copy, Debug, PartialEq, Eq)]
+pub enum StepFault {
+    /// There is no such worker, or it is in another state.
+    NotAllowed,
+    /// The row of the item ran out of memory.
+    Memory,
+}
+
+impl From<Memory> for StepFault {
+    ghost from_gives = { λ _ fault. fault ≡ OutOfMemory };
+
+    fn from(_: Memory) -> StepFault {
+        StepFault::Memory
+    }
+}
+
+/// The state of a worker between two steps.
+#[derive(Clone, Copy, Debug, PartialEq, Eq)]
+pub enum WorkerState {
+    /// It holds no item.
+    Idle,
+    /// It holds the item with the first number, of which it has run the second number of rows.
+    AtRow(usize, u32),
+    /// It drew when no item was left.
+    Ended,
+}
+
+/// The items of a phase, the number that is drawn next, and the state of each worker.
 ///
-/// This project's own. Its steps are the events of a phase that many threads run: a draw, one row of a drawn item, and
-/// the putting down of a finished item.
+/// Its steps are the events of a phase that many threads run: a worker draws an item, runs one row of it, or puts it
+/// down at its end. The machine is entsim's own.
 #[derive(Drop)]
 pub struct Machine<I: ItemWork> {
     opened: Snapshot<Vec<I>>,
@@ -38,7 +74,8 @@ impl<I: ItemWork> Model for Machine<I> {
 }
 
 impl<I: ItemWork + Drop> Machine<I> {
-    /// A machine whose workers are all idle, and which draws item 0 first. After `Memory` the items are dropped.
+    /// Returns a machine whose workers are all idle, and which draws item 0 first. After `Memory` the items are
+    /// dropped.
     pub fn new(alloc: Global, items: Vec<I>, workers: u32) -> Result<Machine<I>, Memory>
         requires workers { 0 < workers }
         requires unrun { All (λ w. w.ran ≡ 0) (map I.work items.items) }
@@ -84,13 +121,14 @@ impl<I: ItemWork> Machine<I> {
         Ok(())
     }
 
-    // Where a worker stands, if there is one of that number.
+    /// Returns the state of a worker, if there is one of this number.
     fn state_of(&self, worker: u32) -> Option<WorkerState>
         ensures { result ≡ slice_get self.now.workers worker }
     {
         self.workers.get(worker as usize).copied()
     }
 
+    /// Lets an idle worker take the next item, or end.
     fn draw(&mut self, worker: u32) -> Result<(), StepFault>
         ensures ok { OnOk result (Takes (core_of I.work self.old) (StepOf.Draw worker) (core_of I.work self.new)) }
         ensures fault { IfErr result (λ e. FaultComes (core_of I.work self.old) (StepOf.Draw worker) e) }
@@ -109,6 +147,7 @@ impl<I: ItemWork> Machine<I> {
         Ok(())
     }
 
+    /// Runs the next row of a worker's item.
     fn run_row(&mut self, worker: u32) -> Result<(), StepFault>
         ensures ok { OnOk result (Takes (core_of I.work self.old) (StepOf.Row worker) (core_of I.work self.new)) }
         ensures fault { IfErr result (λ e. FaultComes (core_of I.work self.old) (StepOf.Row worker) e) }
@@ -126,6 +165,7 @@ impl<I: ItemWork> Machine<I> {
         Ok(())
     }
 
+    /// Takes its finished item from a worker.
     fn put_down(&mut self, worker: u32) -> Result<(), StepFault>
         ensures ok { OnOk result (Takes (core_of I.work self.old) (StepOf.Drop worker) (core_of I.work self.new)) }
         ensures fault { IfErr result (λ e. FaultComes (core_of I.work self.old) (StepOf.Drop worker) e) }

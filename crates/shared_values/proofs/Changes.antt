@@ -1,5 +1,5 @@
 -- What a change of one slot does, and which ids have one.
-use Rattle.std.proofs.Common.{◌≡◌, ◌≢◌, ℕ, ◌<◌, inl, inr, List, [], ◌∷◌, ◌++◌, length, set, sym, ap, ◌∙◌, arith}
+use Rattle.std.proofs.Common.{◌≡◌, ◌≢◌, ℕ, ◌<◌, inl, inr, List, [], ◌∷◌, ◌++◌, length, set, refl, sym, ap, ◌∙◌, arith}
 use Rattle.std.proofs.lemmas.Bool.{cases_lt}
 use Rattle.std.proofs.lemmas.List.{get_or_past, get_or-set_same, get_or-set_other, length-set, length-append, get_or_append_left}
 use Rattle.std.proofs.Math.Seq.{get_or-append_seam}
@@ -38,4 +38,12 @@ changes-push slots slot = record {
   there = get_or-append_seam slots slot [] vacant;
   others = at_or_past slots slot;
   given = omega (arith, length-append slots (slot ∷ []));
+}
+
+-- a release that leaves a slot as it is
+pub changes-none : (slots : List Slot) (id : ℕ) (slot : Slot) → IsHeld slots id → slot ≡ slot_at slots id → ChangesTo slots slots id slot
+changes-none slots id slot held same = record {
+  there = sym same;
+  others = λ other apart. refl;
+  given = omega (arith, held_below slots id held);
 }

@@ -1,4 +1,4 @@
--- When two keys are equal, and what is hashed of one.
+-- Equality and hash of keys.
 use Rattle.std.specs.Prelude.{ℕ, List, Bool, ◌&&◌, ◌++◌, nat_eq}
 use Rattle.std.specs.Cmp.Lexicographic.{pointwise}
 use Rattle.std.specs.Hash as fed
@@ -6,7 +6,7 @@ use Rattle.ent_types.specs.contracts.value.ValuePartialEq.TheImpl as value_eq
 use Rattle.ent_types.specs.contracts.value.ValueHash.TheImpl as value_hash
 use Rattle.shared_values.specs.declared.key.Key.{Key}
 
--- whether two keys have the same type and equal values
+-- true if two keys have the same type and equal values
 abbrev pub same_key : Key → Key → Bool
 same_key a b = nat_eq a.ty.0 b.ty.0 && pointwise value_eq.ghosts.eq a.values b.values
 

@@ -9,7 +9,7 @@ use Rattle.shared_values.specs.declared.table.SharedTable.TheInside.{Inside}
 use Rattle.shared_values.specs.Keys.{same_key}
 use Rattle.shared_values.specs.Holds.{slot_at, holds_of, IsHeld}
 
--- whether an id was given and is not held
+-- true if an id was given and is not held
 abbrev pub is_free : List Slot → ℕ → Bool
 is_free slots id = nat_lt id (length slots) && holds_of slots id == 0
 
@@ -21,11 +21,11 @@ AreFree slots stack = (id : ℕ) → list_any (nat_eq id) stack ≡ is_free slot
 abbrev pub IsFor : List Slot → ℕ → Key → Type 0
 IsFor slots id key = IsHeld slots id × ((slot_at slots id).key ≡ key)
 
--- an id is found by a key exactly where it is held for it
+-- an id is found by a key if and only if it is held for that key
 abbrev pub AreFound : List Slot → (Key → Option ℕ) → Type 0
 AreFound slots found = (key : Key) (id : ℕ) → (found key ≡ Some id) ↔ IsFor slots id key
 
--- what every table keeps: the free ids, each once, the ids by their keys, and room on the stack for all ids
+-- what each table keeps: the free ids, each once, the ids by their keys, and room on the stack for all ids
 pub record IsConsistent (t : Inside) : Type 0 where
   pub once : IsDistinct nat_eq t.free.items
   pub free : AreFree t.slots.items t.free.items

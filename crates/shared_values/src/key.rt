@@ -1,4 +1,4 @@
-//! What an id is found by: a type and its values.
+//! The key by which an id is found: a type and its values.
 ghost use Rattle.std.specs.Prelude.{◌≡◌, OnOk};
 ghost use Rattle.std.specs.Cmp.{partial_equiv_from_equiv};
 ghost use Rattle.shared_values.specs.Keys.{same_key, key_writes};
@@ -41,7 +41,7 @@ impl Hash for Key {
 }
 
 impl Key {
-    /// The key of these values. They are copied.
+    /// Returns the key of a copy of these values.
     pub(crate) fn of(alloc: Global, ty: TypeId, values: &Values) -> Result<Key, Memory>
         ensures { OnOk result (result ≡ Ok (record { ty = ty; values = values.now })) }
     {

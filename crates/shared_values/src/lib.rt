@@ -1,9 +1,7 @@
-//! Interned values of shared types: equal values of one type have one id, for as long as somebody holds it.
+//! Interned values of shared types: equal values of one type have one id as long as anyone holds it.
 #![tactic(auto)]
 
-pub use id::SharedId;
-pub use table::SharedTable;
+pub use table::{SharedId, SharedTable};
 
-mod id;
 mod key;
 mod table;

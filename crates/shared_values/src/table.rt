@@ -1,18 +1,37 @@
 //! The table of interned values: a slot for each id, a stack of the free ids, and a map from keys to ids.
-ghost use Rattle.std.specs.Prelude.{◌≡◌, ◌+◌, ◌-◌, ◌<◌, ℕ, [], OnOk, OnErr, Some, ◌≤◌, length, vec_capacity, IfOk, IsTrue, ◌↔◌};
+ghost use Rattle.std.specs.Prelude.{◌≡◌, ◌+◌, ◌<◌, ℕ, [], OnOk, OnErr, Some, ◌≤◌, length, min, vec_capacity, IfOk, IsTrue, ◌↔◌};
 ghost use Rattle.shared_values.specs.Holds.{slot_at, type_of, values_of, holds_of, IsHeld, vacant, AreOneEach, IsIdFor, IsFreeId, ChangesTo, held_once_more, held_once_less};
 ghost use Rattle.shared_values.specs.Tables.{IsFor};
 ghost use Rattle.shared_values.specs.Keys.{same_key};
 ghost use Rattle.std.specs.HashMap.{IsUnchanged, Updates};
 
-use crate::SharedId;
 use crate::key::Key;
 use ent_types::{Memory, TypeId, Values};
 use std::alloc::Global;
 use std::collections::HashMap;
 use std::marker::Model;
 
-/// What is kept for an id: what it stands for, and how often it is held. A free one is held 0 times.
+/// The number of interned values. It is used again once nobody holds it. Contracts see the number.
+#[derive(Clone, Copy, Debug, PartialEq, Eq, PartialOrd, Ord, Hash)]
+pub struct SharedId(pub(crate) usize);
+
+impl Model for SharedId {
+    ghost use Rattle.std.specs.Prelude.{ℕ};
+    ghost use Rattle.std.specs.Coded.{coded_ℕ};
+
+    ghost Value = { ℕ };
+
+    ghost coded = { coded_ℕ };
+
+    ghost view = { λ id. id.0 };
+
+    ghost inverse = { λ n. record { 0 = n } };
+}
+
+/// The greatest count of holders. A count that has come to it stays there, so its id is never free again.
+const MOST_HOLDS: u64 = u64::MAX;
+
+/// What is kept for an id: its type and values, and how often it is held. A free one is held 0 times.
 #[derive(Drop)]
 struct Slot {
     key: Key,
@@ -20,7 +39,7 @@ struct Slot {
 }
 
 impl Slot {
-    /// The slot of an id that nobody holds. It takes no memory.
+    /// Returns the slot of an id that nobody holds. It takes no memory.
     fn vacant(alloc: Global) -> Slot
         ensures { result ≡ vacant }
     {
@@ -32,15 +51,22 @@ impl Slot {
     }
 }
 
-/// The interned values: for each id how often it is held, its type and its values.
+/// Interned values: for each id how often it is held, its type and its values.
 ///
-/// Of the ids that are held no two have one type and the same values. Contracts see the list of the slots by id; an id
-/// that nobody holds has type 0 and no values. This project's own.
+/// No two held ids have the same type and values. Contracts see the list of the slots by id; an id that nobody holds
+/// has type 0 and no values. This table is entsim's own.
+///
+/// ```text
+/// let id = table.intern(team, &values)?;
+/// assert!(table.intern(team, &values)? == id);
+/// table.release(id);
+/// table.release(id);
+/// ```
 #[derive(Drop)]
 pub struct SharedTable {
     slots: Vec<Slot>,
-    free: Vec<u32>,
-    ids: HashMap<Key, u32>,
+    free: Vec<usize>,
+    ids: HashMap<Key, usize>,
 }
 
 impl Model for SharedTable {
@@ -57,7 +83,7 @@ impl Model for SharedTable {
 }
 
 impl SharedTable {
-    /// The table in which nothing is held. It takes no memory.
+    /// Returns the table in which nothing is held. It takes no memory.
     pub fn new(alloc: Global) -> SharedTable
         ensures { result ≡ [] }
     {
@@ -68,10 +94,10 @@ impl SharedTable {
         }
     }
 
-    /// The id of these values of this type, held once more.
+    /// Returns the id of these values of this type, held once more.
     ///
-    /// Where no id that is held stands for them, it is one that nobody holds: one that was released, or, where none
-    /// is, a fresh one. After `Memory` all is as before.
+    /// If no held id has them, it is an id that nobody holds: a released one, or a fresh one if there is none. After
+    /// `Memory` all is as before. The values are copied for a new id only.
     pub fn intern(&mut self, ty: TypeId, values: &Values) -> Result<SharedId, Memory>
         ensures answer { IfOk result (IsIdFor self.old ty.0 values.now) }
         ensures held { IfOk result (λ id. ChangesTo self.old self.new id (held_once_more self.old id ty.0 values.now)) }
@@ -80,24 +106,23 @@ impl SharedTable {
     {
         let key = Key::of(*self.slots.allocator(), ty, values)?;
         match self.ids.get(&key).copied() {
-            Some(id) => self.hold(id),
+            Some(id) => Ok(self.hold(id)),
             None => self.give(key),
         }
     }
 
     /// Holds an id once more.
-    fn hold(&mut self, id: u32) -> Result<SharedId, Memory>
+    fn hold(&mut self, id: usize) -> SharedId
         requires { IsHeld self.old id }
-        ensures answer { IfOk result (λ given. given ≡ id) }
-        ensures held { OnOk result (ChangesTo self.old self.new id (record (slot_at self.old id) { holds = holds_of self.old id + 1 })) }
-        ensures err { OnErr result (self.new ≡ self.old) }
+        ensures answer { result ≡ id }
+        ensures held { ChangesTo self.old self.new id (record (slot_at self.old id) { holds = min (holds_of self.old id + 1) MOST_HOLDS }) }
     {
-        let slot = &mut self.slots[id as usize];
-        slot.holds = slot.holds.checked_add(1).ok_or(Memory)?;
-        Ok(SharedId(id))
+        let slot = &mut self.slots[id];
+        slot.holds = slot.holds.saturating_add(1);
+        SharedId(id)
     }
 
-    /// An id that nobody holds, held once for a key that no id stands for.
+    /// Holds an id that nobody holds once, for a key that no id has.
     fn give(&mut self, key: Key) -> Result<SharedId, Memory>
         requires { (id : ℕ) → IsFor self.old id key → ⊥ }
         ensures answer { IfOk result (IsFreeId self.old) }
@@ -108,7 +133,7 @@ impl SharedTable {
         if let Some(id) = self.free.last().copied() {
             enter(alloc, &mut self.ids, &key, id)?;
             self.free.pop();
-            self.slots[id as usize] = Slot { key, holds: 1 };
+            self.slots[id] = Slot { key, holds: 1 };
             return Ok(SharedId(id));
         }
         let id = next_id(&mut self.slots, &mut self.free)?;
@@ -122,8 +147,11 @@ impl SharedTable {
         requires { IsHeld self.old id }
         ensures { ChangesTo self.old self.new id (held_once_less (slot_at self.old id)) }
     {
+        if self.slots[id.0].holds == MOST_HOLDS {
+            return;
+        }
         let alloc = *self.slots.allocator();
-        let slot = &mut self.slots[id.0 as usize];
+        let slot = &mut self.slots[id.0];
         if slot.holds > 1 {
             slot.holds -= 1;
             return;
@@ -133,17 +161,18 @@ impl SharedTable {
         self.free.push_reserved(id.0);
     }
 
-    /// How often an id is held: how much more often `intern` answered it than it was released.
+    /// Counts how often an id is held: how much more often `intern` returned it than it was released. The count stops
+    /// at `u64::MAX`.
     pub fn holds(&self, id: SharedId) -> u64
         ensures { result ≡ holds_of self.now id }
     {
-        match self.slots.get(id.0 as usize) {
+        match self.slots.get(id.0) {
             Some(slot) => slot.holds,
             None => 0,
         }
     }
 
-    /// Says whether two ids stand for the same values of one type. They do exactly where they are one id.
+    /// `true` if two ids have the same type and values, which is if and only if they are the same id.
     pub fn are_equal(&self, a: SharedId, b: SharedId) -> bool
         requires a_held { IsHeld self.now a }
         requires b_held { IsHeld self.now b }
@@ -154,18 +183,18 @@ impl SharedTable {
         a == b
     }
 
-    /// The values that an id stands for.
+    /// Returns the values of an id.
     pub fn values_of(&self, id: SharedId) -> &Values
         requires { IsHeld self.now id }
         ensures value { result.now ≡ values_of self.now id }
         ensures one_each { AreOneEach self.now }
     {
-        &self.slots[id.0 as usize].key.values
+        &self.slots[id.0].key.values
     }
 }
 
-/// Lets an id be found by a key. The key is copied.
-fn enter(alloc: Global, ids: &mut HashMap<Key, u32>, key: &Key, id: u32) -> Result<(), Memory>
+/// Maps a copy of the key to an id.
+fn enter(alloc: Global, ids: &mut HashMap<Key, usize>, key: &Key, id: usize) -> Result<(), Memory>
     ensures ok { OnOk result (Updates same_key ids.old ids.new key.now (Some id)) }
     ensures err { OnErr result (IsUnchanged ids.old ids.new) }
 {
@@ -174,8 +203,8 @@ fn enter(alloc: Global, ids: &mut HashMap<Key, u32>, key: &Key, id: u32) -> Resu
     Ok(())
 }
 
-/// The next fresh id, with room for its slot, and on the empty stack of the free ids with room for all ids.
-fn next_id(slots: &mut Vec<Slot>, free: &mut Vec<u32>) -> Result<u32, Memory>
+/// Returns the next fresh id, and takes the memory for its slot and, on the empty stack of the free ids, for all ids.
+fn next_id(slots: &mut Vec<Slot>, free: &mut Vec<usize>) -> Result<usize, Memory>
     requires { free.old.items ≡ [] }
     ensures id { IfOk result (λ id. id ≡ length slots.old.items) }
     ensures slots_room { OnOk result (length slots.new.items < vec_capacity slots.new) }
@@ -184,11 +213,8 @@ fn next_id(slots: &mut Vec<Slot>, free: &mut Vec<u32>) -> Result<u32, Memory>
     ensures free_stays { free.new.items ≡ free.old.items }
     ensures capacity { vec_capacity free.old ≤ vec_capacity free.new }
 {
-    let id = u32::try_from(slots.len()).map_err(|_| Memory)?;
+    let id = slots.len();
     slots.reserve(1)?;
-    free.reserve(id as usize + 1)?;
+    free.reserve(id + 1)?;
     Ok(id)
 }
-
-#[cfg(test)]
-mod tests;

@@ -6,3 +6,5 @@ pub mod Members
 pub mod Splices
 pub mod Paths
 pub mod Full
+pub mod Tallies
+pub mod ByRoot

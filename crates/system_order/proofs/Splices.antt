@@ -8,8 +8,8 @@ use Rattle.std.proofs.lemmas.List.FromFn.{get_or-map-range_with_len, get_or-rang
 use Rattle.system_order.specs.Child.{child_at}
 use Rattle.system_order.specs.Order.{cycle_in, first_some, opened, placed_in, spliced, IsCycleOf, IsFirstCycle}
 use Rattle.system_order.specs.declared.child.Child.{Child}
-use Rattle.system_order.specs.declared.fault.OrderFault.{OrderFault}
-use Rattle.system_order.specs.declared.fault.OrderFault.TheVariants.{Cycle, Memory}
+use Rattle.system_order.specs.declared.splice.OrderFault.{OrderFault}
+use Rattle.system_order.specs.declared.splice.OrderFault.TheVariants.{Cycle, Memory}
 use Rattle.system_order.proofs.Rows.{first_some_here, first_some_past}
 
 -- the numbers from 0 on stand at their own places

@@ -1,4 +1,4 @@
--- Chains of siblings, under any relation that says which of two precedes the other.
+-- Chains of siblings, by any relation `before` of which of two precedes the other.
 use Rattle.std.specs.Prelude.{◌≡◌, ℕ, Bool, ◌||◌, ◌&&◌, List, [], ◌∷◌, Option, map, find, slice_index_or, false, true, All, Contains}
 use Rattle.std.specs.List.{zip}
 
@@ -6,7 +6,7 @@ use Rattle.std.specs.List.{zip}
 abbrev pub through : (ℕ → ℕ → Bool) → ℕ → ℕ → ℕ → Bool
 through leads middle first last = leads first last || (leads first middle && leads middle last)
 
--- the first precedes the last, directly or through a chain of the siblings, each of which may stand in it
+-- the first precedes the last, directly or through a chain of the siblings
 unfoldable pub chained : (ℕ → ℕ → Bool) → List ℕ → ℕ → ℕ → Bool
 chained before [] = before
 chained before (sibling ∷ siblings) = chained (through before sibling) siblings
@@ -19,7 +19,7 @@ earliest_on_cycle before siblings = find (λ sibling. chained before siblings si
 abbrev pub table_of : (ℕ → ℕ → Bool) → List ℕ → List (List Bool)
 table_of leads siblings = map (λ first. map (λ last. leads first last) siblings) siblings
 
--- a row after whatever the sibling at a place leads to is led to from wherever that sibling is
+-- a row with also the marks of the sibling at a place, if the row marks that sibling
 unfoldable pub widened : List Bool → ℕ → List Bool → List Bool
 widened more at row = map (λ marks. marks.0 || (slice_index_or row at false && marks.1)) (zip row more)
 

@@ -11,7 +11,7 @@ rank_of First = 0
 rank_of Middle = 1
 rank_of Last = 2
 
--- what stands for a child that isn't there
+-- the child that a number of no child reads as
 abbrev pub no_child : Child
 no_child = record { parent = 0; is_group = false; band = Middle; before = []; after = [] }
 

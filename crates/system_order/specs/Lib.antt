@@ -2,3 +2,4 @@ pub mod Child
 pub mod Place
 pub mod Chain
 pub mod Order
+pub mod Roots

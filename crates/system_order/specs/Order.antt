@@ -6,8 +6,8 @@ use Rattle.system_order.specs.Child.{child_at, members, precedes}
 use Rattle.system_order.specs.Place.{places}
 use Rattle.system_order.specs.Chain.{earliest_on_cycle}
 use Rattle.system_order.specs.declared.child.Child.{Child}
-use Rattle.system_order.specs.declared.fault.OrderFault.{OrderFault}
-use Rattle.system_order.specs.declared.fault.OrderFault.TheVariants.{Cycle, Memory}
+use Rattle.system_order.specs.declared.splice.OrderFault.{OrderFault}
+use Rattle.system_order.specs.declared.splice.OrderFault.TheVariants.{Cycle, Memory}
 
 -- the children of a group in their places; a system has none
 abbrev pub placed_in : List Child → ℕ → List ℕ
@@ -23,7 +23,7 @@ cycle_in children number =
     then earliest_on_cycle (precedes children) (members children number)
     else None
 
--- what a function answers first on a list
+-- the first value that a function has on a list
 abbrev pub first_some : (ℕ → Option ℕ) → List ℕ → Option ℕ
 first_some f [] = None
 first_some f (x ∷ xs) = option_or (f x) (first_some f xs)
@@ -32,32 +32,32 @@ first_some f (x ∷ xs) = option_or (f x) (first_some f xs)
 abbrev pub first_cycle : List Child → Option ℕ
 first_cycle children = first_some (cycle_in children) (range_with_len 0 (length children))
 
--- a group gives way to its children in their places; a system stands for itself
+-- the children of a group in their places; a system alone
 abbrev pub opened : List Child → ℕ → List ℕ
 opened children number = if (child_at children number).is_group then placed_in children number else number ∷ []
 
--- a row whose groups give way to their children, and these to theirs, so many levels deep
+-- a row whose groups give way to their children, and these to theirs, down to a number of levels
 unfoldable pub spliced : List Child → ℕ → List ℕ → List ℕ
 spliced children zero row = row
 spliced children (suc levels) row = spliced children levels (flat_map (opened children) row)
 
--- The order of all systems, or the child that precedes itself. The roots are opened down to the last level, since
--- no group stands deeper than there are children
+-- The order of all systems, or the child that precedes itself. The roots are opened down to the last level, since there
+-- are no more levels than children
 unfoldable pub order_of : List Child → Result (List ℕ) ℕ
 order_of children =
     option_map_or (λ child. Err child) (first_cycle children) (Ok (spliced children (length children) (0 ∷ 1 ∷ 2 ∷ [])))
 
--- a fault that comes only where the order has it
+-- the fault that the order has, or no memory
 abbrev pub IsFaultOf : List Child → OrderFault → Type 0
 IsFaultOf children (Cycle child) = order_of children ≡ Err child
 IsFaultOf children Memory = Unit {0}
 
--- the same of one group
+-- the fault that one group has, or no memory
 abbrev pub IsCycleOf : List Child → ℕ → OrderFault → Type 0
 IsCycleOf children number (Cycle child) = cycle_in children number ≡ Some child
 IsCycleOf children number Memory = Unit {0}
 
--- the same of all groups
+-- the fault that the first group with a cycle has, or no memory
 abbrev pub IsFirstCycle : List Child → OrderFault → Type 0
 IsFirstCycle children (Cycle child) = first_cycle children ≡ Some child
 IsFirstCycle children Memory = Unit {0}

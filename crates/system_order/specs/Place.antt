@@ -1,4 +1,4 @@
--- The places of siblings, under any relation that says which of two precedes the other.
+-- The places of siblings, by any relation `before` of which of two precedes the other.
 use Rattle.std.specs.Prelude.{ℕ, suc, zero, ◌-◌, ◌==◌, if◌then◌else◌, Bool, List, [], ◌∷◌, slice_index, remove, position, count_by, map}
 use Rattle.std.specs.Option.{option_map_or}
 use Rattle.system_order.specs.declared.place.Waiting.{Waiting}
@@ -7,8 +7,8 @@ use Rattle.system_order.specs.declared.place.Waiting.{Waiting}
 abbrev pub blockers_of : (ℕ → ℕ → Bool) → List ℕ → ℕ → ℕ
 blockers_of before rest sibling = count_by (λ other. before other sibling) rest
 
--- The rest are those that have no place yet, in declared order. Each place has the earliest of the rest whose
--- predecessors all stand before it, which is to say that none of the rest precedes it. There is room for so many
+-- The rest are those that have no place yet, in declared order. Each place has the earliest of the rest that none of
+-- the rest precedes, so all its predecessors are in earlier places. At most `room` of the rest get a place
 unfoldable pub places : (ℕ → ℕ → Bool) → ℕ → List ℕ → List ℕ
 places before zero rest = []
 places before (suc room) rest =

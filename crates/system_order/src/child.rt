@@ -1,10 +1,10 @@
-//! The children of groups, and which of two children stands before the other.
+//! The children of groups, and their bands.
 ghost use Rattle.std.specs.Prelude.{◌≡◌};
 
 use ent_types::Sequence;
 
-/// Where a child stands among its siblings: those of the first band stand before those of the middle one, and
-/// these before those of the last.
+/// The part of its group in which a child is: the children of the first band come before those of the middle band,
+/// and these before those of the last.
 #[derive(Clone, Copy, Debug, PartialEq, Eq, Hash)]
 pub enum Band {
     /// The child is marked `first`.
@@ -18,7 +18,7 @@ pub enum Band {
 impl Band {
     ghost use Rattle.system_order.specs.Child.{rank_of};
 
-    /// The band's place among the bands.
+    /// Returns the band's place among the bands.
     pub(crate) fn rank(self) -> u8
         ensures { result ≡ rank_of self }
     {
@@ -30,18 +30,18 @@ impl Band {
     }
 }
 
-/// A child of a group: a system, or a group with children of its own. Children are named by their numbers, which
-/// are their places in the list of all children; the children 0, 1 and 2 are the root groups.
+/// A child of a group: a system, or a group with children of its own. A child's number is its place in the list of
+/// all children. The children 0, 1 and 2 are the root groups.
 #[derive(Debug, Drop)]
 pub struct Child {
-    /// The number of the group that the child stands in. Nobody looks at that of a root.
+    /// The number of the group of the child. Nobody reads that of a root.
     pub parent: u32,
-    /// Says whether the child is a group.
+    /// `true` if the child is a group.
     pub is_group: bool,
     /// The child's band.
     pub band: Band,
-    /// The siblings that the child is to stand before.
+    /// The siblings that the child has to come before.
     pub before: Sequence<u32>,
-    /// The siblings that the child is to stand after.
+    /// The siblings that the child has to come after.
     pub after: Sequence<u32>,
 }

@@ -9,7 +9,7 @@ use ent_types::Memory;
 use std::alloc::Global;
 use std::marker::Model;
 
-/// A row of the table: a mark for each sibling that one of them leads to.
+/// A row of the table of siblings: a mark for each sibling to which the row's own sibling leads.
 #[derive(Debug, Drop)]
 pub(crate) struct Row {
     marks: Vec<bool>,
@@ -24,7 +24,7 @@ impl Model for Row {
 }
 
 impl Row {
-    /// The row of a sibling: a mark for each one that it precedes.
+    /// Returns the row of a sibling: a mark for each sibling that it precedes.
     fn of(alloc: Global, children: &[Child], siblings: &[u32], child: u32) -> Result<Row, Memory>
         requires known { All (λ number. number < length children.now) siblings.now }
         requires child { child < length children.now }
@@ -37,7 +37,7 @@ impl Row {
         Ok(Row { marks })
     }
 
-    /// A row with the same marks.
+    /// Returns a row with the same marks.
     fn copy(&self, alloc: Global) -> Result<Row, Memory>
         ensures { OnOk result (result ≡ Ok self.now) }
     {
@@ -46,7 +46,7 @@ impl Row {
         })
     }
 
-    /// Says whether the sibling at a place is marked.
+    /// `true` if the sibling at a place is marked.
     fn has(&self, at: usize) -> bool
         requires { at < length self.now }
         ensures { result ≡ slice_index_or self.now at false }
@@ -54,7 +54,7 @@ impl Row {
         self.marks[at]
     }
 
-    /// Marks also what the sibling at a place leads to, if that is marked.
+    /// Marks also the siblings to which the sibling at a place leads, if that one is marked.
     #[tactic(auto, unfolding(crate::specs::Chain::widened))]
     fn widen(&mut self, at: usize, more: &Row)
         requires within { at < length self.old }
@@ -79,7 +79,7 @@ fn mark_all(marks: &mut [bool], more: &[bool])
     }
 }
 
-/// A row for each sibling, with a mark for each one that it precedes.
+/// Returns a row for each sibling, with a mark for each sibling that it precedes.
 fn list_rows(alloc: Global, children: &[Child], siblings: &[u32]) -> Result<Vec<Row>, Memory>
     requires { All (λ number. number < length children.now) siblings.now }
     ensures { IfOk result (λ rows. rows.items ≡ table_of (precedes children.now) siblings.now) }
@@ -104,10 +104,9 @@ fn lead_through(alloc: Global, rows: &mut [Row], at: usize) -> Result<(), Memory
     Ok(())
 }
 
-/// The earliest declared of some siblings that precedes itself through a chain.
+/// Returns the earliest declared sibling that precedes itself through a chain.
 ///
-/// It is called only where siblings can't be placed. It takes as many steps, each over one mark, as there are
-/// triples of siblings.
+/// It is called only if siblings can't be placed. It reads or writes one mark for each triple of siblings.
 #[tactic(auto, unfolding(crate::specs::Chain::earliest_on_cycle))]
 pub(crate) fn find_cycle(
     alloc: Global,

@@ -3,16 +3,17 @@ ghost use Rattle.std.specs.Prelude.{◌≡◌, ◌^◌, ◌<◌, All, IfErr, IfO
 ghost use Rattle.system_order.specs.Child.{child_at, members, precedes};
 ghost use Rattle.system_order.specs.Order.{cycle_in, placed_in, IsCycleOf};
 
+use crate::Child;
 use crate::cycle::find_cycle;
 use crate::place::place;
-use crate::{Child, OrderFault};
+use crate::splice::OrderFault;
 use ent_types::Memory;
 use std::alloc::Global;
 
-/// How many children are roots, which stand in no group.
+/// How many children are roots, which are in no group.
 const ROOTS: usize = 3;
 
-/// Says whether the first of two siblings precedes the second.
+/// `true` if the first of two siblings precedes the second.
 #[tactic(auto, unfolding(crate::specs::Child::precedes))]
 pub(crate) fn is_before(children: &[Child], first: u32, second: u32) -> bool
     requires first { first < length children.now }
@@ -30,7 +31,7 @@ pub(crate) fn is_before(children: &[Child], first: u32, second: u32) -> bool
     one.before.as_slice().contains(&second)
 }
 
-/// The children of a group, in declared order.
+/// Returns the children of a group, in declared order.
 #[tactic(auto, unfolding(crate::specs::Child::members))]
 fn members_of(alloc: Global, children: &[Child], group: u32) -> Result<Vec<u32>, Memory>
     requires { length children.now < 2 ^ 32 }
@@ -46,7 +47,7 @@ fn members_of(alloc: Global, children: &[Child], group: u32) -> Result<Vec<u32>,
     Ok(siblings)
 }
 
-/// Puts the children of a group in their places.
+/// Returns the children of a group in their places.
 pub(crate) fn order_group(
     alloc: Global,
     children: &[Child],

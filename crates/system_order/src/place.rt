@@ -1,4 +1,4 @@
-//! The places of siblings: each has the earliest of the rest that none of the rest precedes.
+//! The places of siblings: each place has the earliest of the rest that none of the rest precedes.
 ghost use Rattle.std.specs.Prelude.{◌≡◌, ◌<◌, All, IfOk, length, map, position, ◌==◌};
 ghost use Rattle.system_order.specs.Child.{precedes};
 ghost use Rattle.system_order.specs.Place.{blockers_of, places, released, waiting_list};
@@ -17,7 +17,7 @@ pub(crate) struct Waiting {
     blockers: usize,
 }
 
-/// How many of the siblings precede one of them.
+/// Counts the siblings that precede one of them.
 fn count_blockers(children: &[Child], siblings: &[u32], child: u32) -> usize
     requires known { All (λ number. number < length children.now) siblings.now }
     requires child { child < length children.now }
@@ -29,7 +29,7 @@ fn count_blockers(children: &[Child], siblings: &[u32], child: u32) -> usize
         .count()
 }
 
-/// All siblings, each with the number of its blockers.
+/// Returns all siblings, each with the number of its blockers.
 fn list_waiting(alloc: Global, children: &[Child], siblings: &[u32]) -> Result<Vec<Waiting>, Memory>
     requires { All (λ number. number < length children.now) siblings.now }
     ensures { IfOk result (λ rest. rest.items ≡ waiting_list (precedes children.now) siblings.now) }
@@ -45,14 +45,14 @@ fn list_waiting(alloc: Global, children: &[Child], siblings: &[u32]) -> Result<V
     Ok(rest)
 }
 
-/// The place of the first of the rest that none of the rest precedes.
+/// Returns the place of the first of the rest that none of the rest precedes.
 fn first_free(rest: &[Waiting]) -> Option<usize>
     ensures { result ≡ position (λ waiting. waiting.blockers == 0) rest.now }
 {
     rest.iter().position(|waiting| waiting.blockers == 0)
 }
 
-/// A waiting sibling after another one has got its place.
+/// Returns a waiting sibling after another one has got its place.
 fn released_by(children: &[Child], waiting: Waiting, placed: u32) -> Waiting
     requires known { waiting.child < length children.now }
     requires placed { placed < length children.now }
@@ -68,7 +68,7 @@ fn released_by(children: &[Child], waiting: Waiting, placed: u32) -> Waiting
     }
 }
 
-/// Takes a sibling that has got its place off the blockers of those that wait.
+/// Removes a sibling that has got its place from the blockers of those that wait.
 fn release(children: &[Child], rest: &mut [Waiting], placed: u32)
     requires known { All (λ waiting. waiting.child < length children.now) rest.old }
     requires placed { placed < length children.now }
@@ -79,8 +79,7 @@ fn release(children: &[Child], rest: &mut [Waiting], placed: u32)
     }
 }
 
-/// Puts siblings in their places, as far as none of the rest precedes one of them: where some precede each other
-/// in a circle, those and what stands behind them are left out.
+/// Returns siblings in their places. Siblings that precede each other in a circle, and those after them, are left out.
 ///
 /// It takes as many steps as there are pairs of siblings.
 pub(crate) fn place(alloc: Global, children: &[Child], siblings: &[u32]) -> Result<Vec<u32>, Memory>

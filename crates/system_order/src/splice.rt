@@ -1,16 +1,65 @@
-//! The order of all systems: the rows of the groups, put in place of the groups.
-ghost use Rattle.std.specs.Prelude.{◌≡◌, ◌++◌, ◌^◌, ◌<◌, IfErr, IfOk, OnOk, None, [], ◌∷◌, length, map};
+//! The order of all systems: each group gives way to its children in their places.
+ghost use Rattle.std.specs.Prelude.{◌≡◌, ◌++◌, ◌^◌, ◌<◌, IfErr, IfOk, OnOk, None, length, map};
 ghost use Rattle.std.specs.Bool.{OnTrue};
 ghost use Rattle.std.specs.List.{flat_map, list_any, range_with_len};
 ghost use Rattle.system_order.specs.Child.{child_at};
-ghost use Rattle.system_order.specs.Order.{cycle_in, first_cycle, opened, order_of, placed_in, spliced, IsCycleOf, IsFaultOf, IsFirstCycle};
+ghost use Rattle.system_order.specs.Order.{cycle_in, first_cycle, opened, order_of, placed_in, IsCycleOf, IsFaultOf, IsFirstCycle};
+ghost use Rattle.system_order.specs.Roots.{systems_below, systems_by_root};
+ghost use Rattle.system_order.specs.declared.splice.OrderFault.TheVariants.{Memory as OutOfMemory};
 
+use crate::Child;
 use crate::group::order_group;
-use crate::{Child, OrderFault};
 use ent_types::{Memory, Sequence};
-use std::alloc::Global;
+use std::alloc::{AllocError, AllocFailed, Global};
+use thiserror::Error;
 
-/// The children of a group in their places; a system has none.
+/// Why children have no order.
+#[derive(Clone, Copy, Debug, PartialEq, Eq, Error)]
+pub enum OrderFault {
+    /// The earliest declared child that precedes itself through a chain, in the first group that has one.
+    #[error("child {0} precedes itself")]
+    Cycle(u32),
+    /// Memory ran out.
+    #[error("out of memory")]
+    Memory,
+}
+
+impl From<Memory> for OrderFault {
+    ghost from_gives = { λ _ fault. fault ≡ OutOfMemory };
+
+    fn from(_: Memory) -> OrderFault {
+        OrderFault::Memory
+    }
+}
+
+impl From<AllocError> for OrderFault {
+    ghost from_gives = { λ _ fault. fault ≡ OutOfMemory };
+
+    fn from(_: AllocError) -> OrderFault {
+        OrderFault::Memory
+    }
+}
+
+impl<T: Drop> From<AllocFailed<T>> for OrderFault {
+    ghost from_gives = { λ _ fault. fault ≡ OutOfMemory };
+
+    fn from(_: AllocFailed<T>) -> OrderFault {
+        OrderFault::Memory
+    }
+}
+
+/// The systems below each of the three roots, in their order.
+#[derive(Debug, Drop)]
+pub struct RootOrders {
+    /// The systems below child 0.
+    pub initialization: Sequence<u32>,
+    /// The systems below child 1.
+    pub simulation: Sequence<u32>,
+    /// The systems below child 2.
+    pub presentation: Sequence<u32>,
+}
+
+/// Returns the children of a group in their places. A system has none.
 fn order_child(alloc: Global, children: &[Child], number: u32) -> Result<Vec<u32>, OrderFault>
     requires few { length children.now < 2 ^ 32 }
     requires known { number < length children.now }
@@ -25,7 +74,7 @@ fn order_child(alloc: Global, children: &[Child], number: u32) -> Result<Vec<u32
     }
 }
 
-/// The children of every child in their places, by number.
+/// Returns the children of every child in their places, by number.
 fn list_orders(alloc: Global, children: &[Child]) -> Result<Vec<Sequence<u32>>, OrderFault>
     requires { length children.now < 2 ^ 32 }
     ensures acyclic { OnOk result (first_cycle children.now ≡ None) }
@@ -40,7 +89,7 @@ fn list_orders(alloc: Global, children: &[Child]) -> Result<Vec<Sequence<u32>>, 
     Ok(orders)
 }
 
-/// Says whether a number is that of a group.
+/// `true` if a number is that of a group.
 fn is_group(children: &[Child], number: u32) -> bool
     ensures value { result ≡ (child_at children.now number).is_group }
     ensures known { OnTrue result (number < length children.now) }
@@ -51,14 +100,14 @@ fn is_group(children: &[Child], number: u32) -> bool
     }
 }
 
-/// Says whether there is a group in a row.
+/// `true` if there is a group in a row.
 fn has_group(children: &[Child], row: &[u32]) -> bool
     ensures { result ≡ list_any (λ number. (child_at children.now number).is_group) row.now }
 {
     row.iter().any(|number| is_group(children, *number))
 }
 
-/// Appends what stands for a number once its group, if it is one, has given way to its children.
+/// Appends a system's number, or the children of a group in their places.
 fn push_opened(
     children: &[Child],
     orders: &[Sequence<u32>],
@@ -76,7 +125,7 @@ fn push_opened(
     Ok(())
 }
 
-/// A row whose groups have given way to their children.
+/// Returns a row whose groups have given way to their children.
 fn open_row(
     alloc: Global,
     children: &[Child],
@@ -93,12 +142,17 @@ fn open_row(
     Ok(wider)
 }
 
-/// The systems of the roots, one root after the other.
-fn splice(alloc: Global, children: &[Child], orders: &[Sequence<u32>]) -> Result<Vec<u32>, Memory>
+/// Returns the systems below a group, in their order.
+fn splice(
+    alloc: Global,
+    children: &[Child],
+    orders: &[Sequence<u32>],
+    group: u32,
+) -> Result<Vec<u32>, Memory>
     requires { orders.now ≡ map (placed_in children.now) (range_with_len 0 (length children.now)) }
-    ensures { IfOk result (λ row. row.items ≡ spliced children.now (length children.now) (0 ∷ 1 ∷ 2 ∷ [])) }
+    ensures { IfOk result (λ row. row.items ≡ systems_below children.now group) }
 {
-    let mut row = vec![in alloc; 0, 1, 2]?;
+    let mut row = vec![in alloc; group]?;
     for level in 0..children.len() {
         if !has_group(children, &row) {
             break;
@@ -108,27 +162,55 @@ fn splice(alloc: Global, children: &[Child], orders: &[Sequence<u32>]) -> Result
     Ok(row)
 }
 
-/// The systems of the three roots in the order in which they run, one root after the other.
+/// Returns the systems below each root, in the order in which they run. [`order`] says what that order is, and when
+/// there is none.
 ///
-/// The children of a group stand in this order: each place has the earliest declared child whose predecessors all
-/// stand before it. A child precedes its sibling if its band is lower, if the sibling names it in `after`, or if it
-/// names the sibling in `before`. A group among the children then gives way to its own children.
-///
-/// The answer is [`OrderFault::Cycle`] exactly where in some group a child precedes itself through a chain. It
-/// names the earliest declared such child of the first such group, where the roots come first.
-///
-/// Callers see to it that the children 0, 1 and 2 are groups, that all groups stand before all systems, that the
-/// parent of each later child is an earlier group, and that a child's names are its siblings. No step relies on
-/// that: a name that is no sibling says nothing.
-///
-/// The bands and names are those of Unity's system groups. That they count alike, so that one against another is a
-/// cycle, and that the earliest declared child comes first, are this project's own.
+/// The law `each_system_is_once_below_its_root` says that no system is missing, and none is there twice.
 #[tactic(auto, unfolding(crate::specs::Order::order_of))]
-pub fn order(alloc: Global, children: &[Child]) -> Result<Vec<u32>, OrderFault>
+pub fn order_by_root(alloc: Global, children: &[Child]) -> Result<RootOrders, OrderFault>
     requires { length children.now < 2 ^ 32 }
-    ensures ok { IfOk result (λ systems. order_of children.now ≡ Ok systems.items) }
+    ensures acyclic { OnOk result (first_cycle children.now ≡ None) }
+    ensures initialization { IfOk result (λ roots. roots.initialization ≡ systems_below children.now 0) }
+    ensures simulation { IfOk result (λ roots. roots.simulation ≡ systems_below children.now 1) }
+    ensures presentation { IfOk result (λ roots. roots.presentation ≡ systems_below children.now 2) }
     ensures err { IfErr result (IsFaultOf children.now) }
 {
     let orders = list_orders(alloc, children)?;
-    Ok(splice(alloc, children, &orders)?)
+    let initialization = splice(alloc, children, &orders, 0)?;
+    let simulation = splice(alloc, children, &orders, 1)?;
+    let presentation = splice(alloc, children, &orders, 2)?;
+    Ok(RootOrders {
+        initialization: Sequence::from_vec(initialization),
+        simulation: Sequence::from_vec(simulation),
+        presentation: Sequence::from_vec(presentation),
+    })
+}
+
+/// Returns the systems of the three roots in the order in which they run, one root after the other.
+///
+/// Each place among the children of a group has the earliest declared child whose predecessors all come before it.
+/// A child precedes its sibling if its band is lower, if the sibling names it in `after`, or if it names the sibling
+/// in `before`. A group among the children then gives way to its own children.
+///
+/// It returns [`OrderFault::Cycle`] if and only if in some group a child precedes itself through a chain. The fault
+/// names the earliest declared such child of the first such group, where the roots come first.
+///
+/// Callers ensure that the children 0, 1 and 2 are groups, that all groups come before all systems, that the parent
+/// of each later child is an earlier group, and that a child's names are its siblings. No step relies on that: a
+/// name that is no sibling says nothing.
+///
+/// The bands and names are those of Unity's system groups. These two rules are entsim's own: bands and names count
+/// alike, so one against the other is a cycle, and the earliest declared child comes first.
+#[tactic(auto, using(crate::proofs::ByRoot::order_by_roots))]
+pub fn order(alloc: Global, children: &[Child]) -> Result<Vec<u32>, OrderFault>
+    requires { length children.now < 2 ^ 32 }
+    ensures ok { IfOk result (λ systems. order_of children.now ≡ Ok systems.items) }
+    ensures roots { IfOk result (λ systems. systems.items ≡ systems_by_root children.now) }
+    ensures err { IfErr result (IsFaultOf children.now) }
+{
+    let roots = order_by_root(alloc, children)?;
+    let mut systems = roots.initialization.into_vec();
+    systems.extend_from_slice(roots.simulation.as_slice())?;
+    systems.extend_from_slice(roots.presentation.as_slice())?;
+    Ok(systems)
 }

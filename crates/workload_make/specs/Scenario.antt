@@ -14,7 +14,7 @@ numbers_of number =
     let third = state_after second in
     record { width = 50 + draw_in first 50; speed = 1 + draw_in second 5; lives = 1 + draw_in third 40 }
 
--- what a byte of the template stands for: `@`, `$` and `~` for a number, any other byte for itself
+-- the bytes for a byte of the template: a number for `@`, `$` and `~`, and the byte itself for any other
 abbrev pub shown : Numbers → ℕ → List ℕ
 shown numbers byte =
     if byte == 64 then decimal numbers.width

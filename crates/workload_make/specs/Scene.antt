@@ -1,4 +1,4 @@
--- The generated scenes: files of the scene format, version 1, whose nodes stand in a ring.
+-- The generated scenes: files of the scene format, version 1, whose nodes are a ring.
 use Rattle.std.specs.Prelude.{ℕ, ◌+◌, ◌%◌, ◌^◌, List, [], ◌∷◌, ◌++◌, length, codes}
 use Rattle.std.specs.List.{flat_map, range_with_len}
 use Rattle.std.specs.Int.{w16, w32, to_le_bytes}

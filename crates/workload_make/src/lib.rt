@@ -1,11 +1,9 @@
-//! Generated input: a scenario and two scenes for every number, for benchmarks and for tries at random.
+//! Generated input: a scenario and two scenes for each number, for benchmarks and random comparison.
 #![tactic(auto)]
 
 mod draws;
 mod scenario;
 mod scene;
-#[cfg(test)]
-mod tests;
 
 pub use scenario::scenario_of;
 pub use scene::scene_of;

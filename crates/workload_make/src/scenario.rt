@@ -1,4 +1,4 @@
-//! The generated scenario: a text whose three marks are replaced by drawn numbers.
+//! The generated scenario: a template whose three marks are replaced by drawn numbers.
 ghost use Rattle.std.specs.Prelude.{◌≡◌, ◌++◌, IfOk, OnOk};
 ghost use Rattle.std.specs.Fmt.{decimal};
 ghost use Rattle.workload_make.specs.Scenario.{filled, numbers_of, scenario_text, shown};
@@ -10,16 +10,16 @@ use std::alloc::Global;
 /// The numbers that a scenario draws.
 #[derive(Clone, Copy, Debug, PartialEq, Eq)]
 pub(crate) struct Numbers {
-    /// How many entities stand in a line of the field at the start: 50 to 99.
+    /// The entities in a line of the field at the start: 50 to 99.
     width: u32,
     /// The greater of an entity's two speeds: 1 to 5.
     speed: u32,
-    /// How many different healths there are at the start: 1 to 40.
+    /// The different healths at the start: 1 to 40.
     lives: u32,
 }
 
-/// The text of every generated scenario, where `@` stands for the width, `$` for the speed and `~` for the
-/// number of healths.
+/// The text of every generated scenario, with `@` for the width, `$` for the speed and `~` for the number of
+/// healths.
 pub(crate) const TEMPLATE: &str = r#"frames = 60
 [[type]]
 name = "Position"
@@ -97,7 +97,7 @@ frame = 40
 unload = "One"
 "#;
 
-/// Draws the numbers of the scenario with this number: first the width, then the speed, then the healths.
+/// Draws the numbers of a scenario: first the width, then the speed, then the healths.
 fn draw_numbers(number: u64) -> Numbers
     ensures { result ≡ numbers_of number }
 {
@@ -121,7 +121,7 @@ fn push_decimal(alloc: Global, text: &mut Vec<u8>, number: u32) -> Result<(), Me
     Ok(())
 }
 
-/// Appends what a byte of the template stands for.
+/// Appends a byte of the template, or the number that it is the mark of.
 fn push_shown(alloc: Global, text: &mut Vec<u8>, byte: u8, numbers: Numbers) -> Result<(), Memory>
     ensures { OnOk result (text.new.items ≡ text.old.items ++ shown numbers byte) }
 {
@@ -136,7 +136,7 @@ fn push_shown(alloc: Global, text: &mut Vec<u8>, byte: u8, numbers: Numbers) -> 
     }
 }
 
-/// The template with the numbers in place of its marks.
+/// Returns the template with the numbers in place of its marks.
 #[tactic(auto, unfolding(crate::specs::Scenario::filled))]
 fn fill(alloc: Global, template: &[u8], numbers: Numbers) -> Result<Vec<u8>, Memory>
     ensures { IfOk result (λ text. text.items ≡ filled numbers template.now) }
@@ -148,10 +148,9 @@ fn fill(alloc: Global, template: &[u8], numbers: Numbers) -> Result<Vec<u8>, Mem
     Ok(text)
 }
 
-/// The bytes of the scenario with a number, which is any number of 64 bits: a scenario in TOML that loads the
-/// files `scene1` and `scene2`.
+/// Returns the bytes of the scenario of a number: a TOML file that loads the files `scene1` and `scene2`.
 ///
-/// The generator is this project's own. It ends with [`Memory`] only for want of memory.
+/// The generator is entsim's own. Each number of 64 bits has a scenario, and equal numbers have equal bytes.
 pub fn scenario_of(alloc: Global, number: u64) -> Result<Vec<u8>, Memory>
     ensures { IfOk result (λ bytes. bytes.items ≡ scenario_text number) }
 {

@@ -6,12 +6,12 @@ use crate::draws::Generator;
 use ent_types::Memory;
 use std::alloc::Global;
 
-/// What stands before the nodes in every generated scene: the mark, version 1, and the types `Position` (two
+/// The bytes before the count of nodes in every generated scene: the mark, version 1, and the types `Position` (two
 /// i32), `Seen` (an i32) and `Target` (a reference).
 pub(crate) const HEAD: &[u8] =
     b"ENTS\x01\0\0\0\x03\0\x08Position\0\x02\0\0\x04Seen\0\x01\0\x06Target\0\x01\x02";
 
-/// How many nodes scene `k` of a number has: 100 to 199.
+/// Returns the count of nodes of scene `k` of a number: 100 to 199.
 fn count_nodes(number: u64, k: u32) -> u32
     ensures count { result ≡ node_count number k }
     ensures some { 0 < result }
@@ -41,7 +41,7 @@ fn push_u32(bytes: &mut Vec<u8>, value: u32) -> Result<(), Memory>
     Ok(())
 }
 
-/// Appends a part of a node: the place of its type, and its fields, of four bytes each.
+/// Appends a part of a node: the place of its type in the file, and its fields, of four bytes each.
 #[tactic(auto, unfolding(crate::specs::Scene::part_bytes))]
 fn push_part(bytes: &mut Vec<u8>, place: u16, fields: &[u32]) -> Result<(), Memory>
     ensures { OnOk result (bytes.new.items ≡ bytes.old.items ++ part_bytes place fields.now) }
@@ -53,7 +53,7 @@ fn push_part(bytes: &mut Vec<u8>, place: u16, fields: &[u32]) -> Result<(), Memo
     Ok(())
 }
 
-/// Appends the node with an index, of so many nodes in all.
+/// Appends the node with an index, of `count` nodes in all.
 #[tactic(auto, unfolding(crate::specs::Scene::node_bytes))]
 fn push_node(bytes: &mut Vec<u8>, k: u32, count: u32, index: u32) -> Result<(), Memory>
     requires { index < count }
@@ -79,10 +79,9 @@ fn push_ring(bytes: &mut Vec<u8>, k: u32, count: u32) -> Result<(), Memory>
     Ok(())
 }
 
-/// The bytes of scene `k`, which is 1 or 2, of a number, which is any number of 64 bits: a scene file that the
-/// scenario of that number accepts.
+/// Returns the bytes of scene `k` of a number: a scene file that the scenario of that number accepts.
 ///
-/// The generator is this project's own. It ends with [`Memory`] only for want of memory.
+/// The generator is entsim's own. Each number of 64 bits has two scenes, and equal numbers have equal bytes.
 pub fn scene_of(alloc: Global, number: u64, k: u32) -> Result<Vec<u8>, Memory>
     requires first { 1 ≤ k }
     requires last { k ≤ 2 }

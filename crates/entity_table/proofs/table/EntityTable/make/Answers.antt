@@ -1,4 +1,4 @@
-use Rattle.std.proofs.Common.{◌≡◌, ℕ, ◌-◌, ◌<◌, List, [], ◌∷◌, ◌++◌, length, Some, None, get_or, set, nat_lt, refl, sym, ap, ap₂, ◌∙◌, subst, arith}
+use Rattle.std.proofs.Common.{◌≡◌, ℕ, ◌<◌, List, [], ◌∷◌, ◌++◌, length, Some, None, get_or, set, nat_lt, refl, sym, ap, ap₂, ◌∙◌, subst, arith}
 use Rattle.std.proofs.lemmas.Bool.{cond-true, lt-ltb}
 use Rattle.std.proofs.lemmas.List.{length-set, length-append, length-map, get_or-map, get_or-set_same, get_or-set_other}
 use Rattle.ent_types.specs.declared.entity.Entity.{Entity}
@@ -6,9 +6,9 @@ use Rattle.world_model.specs.Enter.{take_id}
 use Rattle.entity_table.specs.declared.table.Slot.{Slot}
 use Rattle.entity_table.specs.declared.table.EntityTable.TheInside.{Inside}
 use Rattle.entity_table.specs.Table.{Holder, with_made, place_at}
-use Rattle.entity_table.specs.Slots.{holder_of, holders_of, versions_of, entity_at, free_of, table_of, AreFree, IsEachOnce}
+use Rattle.entity_table.specs.Slots.{holder_of, holders_of, versions_of, entity_at, free_of, table_of, AreVersions, AreFree, IsEachOnce}
 use Rattle.entity_table.proofs.TableLemmas.{rebinds, place_at-other, place_at-same}
-use Rattle.entity_table.proofs.SlotLemmas.{counts, count_set, free_stays, free_popped, free_top, once_popped, once_top, free_of-push}
+use Rattle.entity_table.proofs.SlotLemmas.{version_at, counts, count_set, free_stays, free_popped, free_top, once_popped, once_top, free_of-push}
 use Rattle.entity_table.proofs.AliveSlot.{table_with, holders_of-set, versions_of-same}
 use Rattle.entity_table.proofs.table.EntityTable.make.Goals as goal
 
@@ -31,6 +31,8 @@ invariant_of-self c =
     record {
       once = once_popped rest i once;
       free = rw holders_of-set (free_stays (holders_of t.slots.items) rest i (holder_of used) (free_popped (holders_of t.slots.items) rest i free) (once_top rest i once));
+      versions = subst AreVersions (sym (versions_of-same t.slots.items i used slot c.index_mut-slot.ensures.value refl)) c.self.invariant.versions;
+      first = c.self.invariant.first;
       alive = rw holders_of-set (omega (arith, c.self.invariant.alive, count, was));
       counted = omega (arith, c.self.invariant.counted, same, popped, all);
       most_alive = omega (arith, c.self.invariant.most_alive, ap (λ table. table.spare) c.self.view_is, c.requires);
@@ -61,6 +63,15 @@ returns-in-Some-clause-value c =
     ap (λ v. let e : Entity = record { index = i; version = v } in e) (version_read t slot i c.index_mut-slot.ensures.value top.0)
     ∙ sym (ap (λ es. (take_id es (length (holders_of t.slots.items)) t.first_version).entity) (free_is t rest i split)))
 
+pub returns-in-Some-clause-version : goal.returns-in-Some-clause-version
+returns-in-Some-clause-version c =
+    let t = c.self.inside in
+    let i = c.in-Some.index in
+    let rest = c.pop.new.self.items in
+    let split : t.free.items ≡ rest ++ i ∷ [] = c.in-Some.ensures.items in
+    let top = free_top (holders_of t.slots.items) rest i (subst (AreFree (holders_of t.slots.items)) split c.self.invariant.free) in
+    version_at t.slots.items c.index_mut-slot.result.now i c.self.invariant.versions c.index_mut-slot.ensures.value (omega (arith, top.0, length-map t.slots.items holder_of))
+
 pub returns-in-Some-clause-table : goal.returns-in-Some-clause-table
 returns-in-Some-clause-table c =
     let t = c.self.inside in
@@ -73,12 +84,12 @@ returns-in-Some-clause-table c =
     let top = free_top holders rest i (subst (AreFree holders) split c.self.invariant.free) in
     let read = c.index_mut-slot.ensures.value in
     rw (← c.self.view_is) (
-    ap₂ (λ hs es. table_with hs es t.first_version (t.spare - 1))
+    ap₂ (λ hs es. table_with hs es t.first_version)
     (holders_of-set t.slots.items i used
     ∙ ap (λ v. set holders i (Some (let h : Holder = record { version = v; place = c.args.place } in h))) (version_read t slot i read top.0)
     ∙ sym (cond-true (nat_lt i (length holders)) _ _ (lt-ltb i (length holders) top.0)))
     (ap (λ vs. free_of vs rest) (versions_of-same t.slots.items i used slot read refl))
-    ∙ sym (ap (λ es. with_made (table_with holders es t.first_version t.spare) c.args.place) (free_is t rest i split)))
+    ∙ sym (ap (λ es. with_made (table_with holders es t.first_version) c.args.place) (free_is t rest i split)))
 
 pub returns-in-Some-clause-map : goal.returns-in-Some-clause-map
 returns-in-Some-clause-map c =

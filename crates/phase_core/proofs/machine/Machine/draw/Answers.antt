@@ -3,7 +3,7 @@ use Rattle.std.proofs.lemmas.List.{length-map}
 use Rattle.std.proofs.lemmas.Option.{slice_get_within}
 use Rattle.phase_core.specs.Core.{IsKept}
 use Rattle.phase_core.specs.Phase.{core_of}
-use Rattle.phase_core.specs.declared.step.WorkerState.TheVariants.{Idle}
+use Rattle.phase_core.specs.declared.machine.WorkerState.TheVariants.{Idle}
 use Rattle.phase_core.proofs.Keeps.{drawn_kept, ended_kept, sound}
 use Rattle.phase_core.proofs.machine.Machine.draw.Goals as goal
 

@@ -2,7 +2,7 @@ use Rattle.std.proofs.Common.{◌≡◌, ◌∙◌, sym, ap, subst, arith, Some,
 use Rattle.std.proofs.lemmas.Option.{slice_get_within}
 use Rattle.phase_core.specs.Core.{IsKept, rows_of}
 use Rattle.phase_core.specs.Phase.{core_of}
-use Rattle.phase_core.specs.declared.step.WorkerState.TheVariants.{AtRow}
+use Rattle.phase_core.specs.declared.machine.WorkerState.TheVariants.{AtRow}
 use Rattle.phase_core.proofs.Keeps.{put_down_kept, sound}
 use Rattle.phase_core.proofs.machine.Machine.put_down.Goals as goal
 

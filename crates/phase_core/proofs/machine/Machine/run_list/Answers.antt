@@ -2,7 +2,7 @@ use Rattle.std.proofs.Common.{refl, subst}
 use Rattle.std.proofs.lemmas.Result.{err_from_is_err_and}
 use Rattle.phase_core.specs.Core.{IsKept}
 use Rattle.phase_core.specs.Phase.{core_of}
-use Rattle.phase_core.specs.declared.step.StepOf.TheVariants.{Draw}
+use Rattle.phase_core.specs.declared.machine.StepOf.TheVariants.{Draw}
 use Rattle.phase_core.proofs.Keeps.{sound, stops_at, taken_more}
 use Rattle.phase_core.proofs.machine.Machine.run_list.Goals as goal
 

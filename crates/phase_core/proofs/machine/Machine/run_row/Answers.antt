@@ -3,7 +3,7 @@ use Rattle.std.proofs.lemmas.Grind.{common_steps}
 use Rattle.std.proofs.lemmas.Option.{slice_get_within}
 use Rattle.phase_core.specs.Core.{IsKept, rows_of, ran_of, with_row_run, with_worker}
 use Rattle.phase_core.specs.Phase.{core_of}
-use Rattle.phase_core.specs.declared.step.WorkerState.TheVariants.{AtRow}
+use Rattle.phase_core.specs.declared.machine.WorkerState.TheVariants.{AtRow}
 use Rattle.phase_core.proofs.Keeps.{row_kept, ran_of-held, sound}
 use Rattle.phase_core.proofs.machine.Machine.run_row.Goals as goal
 
