@@ -1,6 +1,5 @@
 pub mod Steps
 pub mod FaultLemmas
-pub mod TypeLemmas
 pub mod UseLemmas
 pub mod NameLemmas
 pub mod LabelLemmas

@@ -1,8 +1,9 @@
 -- Which scenarios are of a form that is run.
 use Rattle.std.specs.Prelude.{ℕ, Bool, true, false, not, ◌&&◌, ◌||◌, ◌==◌, nat_lt, List, [], length, drop, map, flat_map}
 use Rattle.std.specs.List.{list_any, list_all}
+use Rattle.ent_types.specs.declared.entity.TheConstants.{BUILT_IN_TYPES}
 use Rattle.ent_types.specs.declared.kinds.Kind.{Kind}
-use Rattle.ent_types.specs.declared.kinds.Kind.TheVariants.{Plain, Tag, Shared, Cleanup}
+use Rattle.ent_types.specs.declared.kinds.Kind.TheVariants.{Plain, Tag, Shared, Cleanup, Buffer}
 use Rattle.ent_types.specs.declared.type_info.TypeInfo.{TypeInfo}
 use Rattle.scenario_record.specs.declared.record.Scenario.{Scenario}
 use Rattle.scenario_record.specs.declared.record.SpawnEntry.{SpawnEntry}
@@ -17,10 +18,11 @@ is_built_kind Plain = true
 is_built_kind Tag = true
 is_built_kind Shared = false
 is_built_kind Cleanup = false
+is_built_kind Buffer = false
 
--- the declared types come after the three built-in ones
+-- the declared types come after the built-in ones
 abbrev pub are_built_types : List TypeInfo → Bool
-are_built_types registry = list_all (λ t. is_built_kind t.kind) (drop 3 registry)
+are_built_types registry = list_all (λ t. is_built_kind t.kind) (drop BUILT_IN_TYPES registry)
 
 -- ---- the built-in tags: type 0 is `Disabled`, and type 1 is `Prefab`
 

@@ -2,6 +2,7 @@
 use Rattle.std.specs.Prelude.{ℕ, ◌+◌, Bool, false, not, ◌&&◌, ◌==◌, nat_lt, if◌then◌else◌, List, [], ◌∷◌, ◌++◌, map, codes, Option, None, Some, find}
 use Rattle.std.specs.List.{list_any}
 use Rattle.std.specs.Option.{option_map, option_map_or}
+use Rattle.ent_types.specs.declared.limits.TheConstants.{MOST_ENTITIES}
 use Rattle.ent_types.specs.declared.type_info.TypeInfo.{TypeInfo}
 use Rattle.ent_types.specs.Registries.{type_at}
 use Rattle.ent_types.specs.Types.{same_name, column_size}
@@ -147,7 +148,7 @@ spawn_fault registry p = fault_if (capacity_of (sizes_of registry p) == 0) TooLa
 abbrev pub crowded_from : ℕ → ℕ → List SpawnEntry → Option BadScenario
 crowded_from made i [] = None
 crowded_from made i (p ∷ ps) =
-    if nat_lt 1048576 (made + p.count) then Some (at_element (codes "spawn") i (bad TooManyEntities))
+    if nat_lt MOST_ENTITIES (made + p.count) then Some (at_element (codes "spawn") i (bad TooManyEntities))
     else crowded_from (made + p.count) (i + 1) ps
 
 unfoldable pub spawns_fault : Scenario → Option BadScenario

@@ -1,14 +1,15 @@
 -- The types that a walk over texts finds.
 use Rattle.std.specs.Prelude.{ℕ, List, [], ◌∷◌, fold, nat_lt, if◌then◌else◌}
+use Rattle.ent_types.specs.declared.limits.TheConstants.{MOST_TYPES}
 use Rattle.ent_types.specs.TypeSets.{with_type}
 use Rattle.scenario_record.specs.Uses.{Use, own_number, own_ref, looked_up, has_type, on_type, made}
 use Rattle.scenario_check.specs.declared.uses.Touched.{Touched}
 
 -- ---- sets of types
 
--- the set with a type. Types have numbers below 256: a number that no type has is skipped.
+-- the set with a type; a number that no type can have is skipped
 abbrev pub put_type : List ℕ → ℕ → List ℕ
-put_type set ty = if nat_lt ty 256 then with_type set ty else set
+put_type set ty = if nat_lt ty MOST_TYPES then with_type set ty else set
 
 -- the set with the types of a list
 abbrev pub with_types : List ℕ → List ℕ → List ℕ

@@ -8,20 +8,10 @@ ghost use Rattle.scenario_record.specs.Readings.{Passes};
 
 use crate::each::{Test, each};
 use crate::uses::{by_texts, put};
-use ent_types::{Registry, TypeId, TypeSet};
+use ent_types::{Registry, TypeSet};
 use expr_trees::{Assign, Switch};
 use scenario_record::{Access, Cause, Scenario, ScenarioFault, SystemEntry, bad};
 use std::alloc::Global;
-
-/// `true` if a type can be disabled in a row; `false` if there is no such type.
-fn is_enableable(registry: &Registry, ty: TypeId) -> bool
-    ensures { result ≡ (type_at registry.now ty.0).enableable }
-{
-    if usize::from(ty.0) >= registry.len() {
-        return false;
-    }
-    registry.info(ty).enableable
-}
 
 fn with_assigned(assigns: &[Assign], before: TypeSet) -> TypeSet
     ensures { result ≡ with_types before (map (λ a. a.ty.0) assigns.now) }
@@ -69,7 +59,7 @@ fn with_enableable(registry: &Registry, types: &TypeSet, before: TypeSet) -> Typ
 {
     let mut found = before;
     for ty in types.iter() {
-        if is_enableable(registry, ty) {
+        if registry.is_enableable(ty) {
             found = put(found, ty);
         }
     }

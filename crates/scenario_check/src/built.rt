@@ -4,12 +4,9 @@ ghost use Rattle.std.specs.List.{list_all};
 ghost use Rattle.scenario_check.specs.Built.{is_built_kind, are_built_types, is_built_in_tag, names_built_in, tested_by, is_built_spawn, is_built_system, is_built};
 
 use crate::uses::by_assigns;
-use ent_types::{Kind, Registry, TypeId, TypeInfo, TypeSet};
+use ent_types::{BUILT_IN_TYPES, Kind, Registry, TypeId, TypeInfo, TypeSet};
 use expr_trees::PartExpr;
 use scenario_record::{Scenario, SpawnEntry, SystemEntry};
-
-/// The number of built-in types, which come before the declared ones.
-const BUILT_IN: usize = 3;
 
 /// The number of built-in tags, `Disabled` and `Prefab`, which come before all other types.
 const BUILT_IN_TAGS: u16 = 2;
@@ -22,6 +19,7 @@ fn is_built_kind(kind: Kind) -> bool
         Kind::Tag => true,
         Kind::Shared => false,
         Kind::Cleanup => false,
+        Kind::Buffer => false,
     }
 }
 
@@ -35,9 +33,9 @@ fn are_built_kinds(types: &[TypeInfo]) -> bool
 fn are_built_types(registry: &Registry) -> bool
     ensures { result ≡ are_built_types registry.now }
 {
-    let are_there = registry.len() >= BUILT_IN;
+    let are_there = registry.len() >= BUILT_IN_TYPES;
     prove!(are_there);
-    are_built_kinds(&registry.types()[BUILT_IN..])
+    are_built_kinds(&registry.types()[BUILT_IN_TYPES..])
 }
 
 fn is_built_in_tag(ty: TypeId) -> bool
@@ -51,7 +49,7 @@ fn is_built_in_tag(ty: TypeId) -> bool
 fn has_built_in(types: &TypeSet) -> bool
     ensures { result ≡ names_built_in types.now }
 {
-    types.has(TypeId(0)) || types.has(TypeId(1))
+    types.has(TypeId::DISABLED) || types.has(TypeId::PREFAB)
 }
 
 /// `true` if a built-in tag is among the types of some parts.

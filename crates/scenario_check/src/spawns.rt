@@ -7,7 +7,8 @@ ghost use Rattle.scenario_record.specs.Readings.{Passes};
 ghost use Rattle.scenario_check.specs.Checks.{spawn_fault, crowded_from, spawns_fault};
 
 use crate::each::{Test, at_element, each};
-use ent_types::{Registry, TypeId};
+use ent_types::Registry;
+use ent_types::limits::{MOST_COLUMN_BYTES, MOST_ENTITIES};
 use expr_trees::PartExpr;
 use scenario_record::{Cause, Scenario, ScenarioFault, SpawnEntry, bad};
 use std::alloc::Global;
@@ -18,26 +19,11 @@ const ID_BYTES: u32 = 64;
 /// The bytes of a block beside its header.
 const COLUMN_ROOM: u32 = 16_320;
 
-/// The greatest number of entities that can be alive together.
-const MOST_ENTITIES: u32 = 1_048_576;
-
-/// Returns the bytes of a row in the column of a type; 0 if there is no such type.
-#[tactic(auto, using(crate::proofs::TypeLemmas::sizes))]
-fn column_size(registry: &Registry, ty: TypeId) -> u32
-    ensures value { result ≡ column_size (type_at registry.now ty.0) }
-    ensures most { result ≤ 512 }
-{
-    if usize::from(ty.0) >= registry.len() {
-        return 0;
-    }
-    registry.info(ty).column_size()
-}
-
 /// Returns the bytes of a column of one row: a multiple of 64.
 fn column_bytes(size: u32) -> u32
-    requires { size ≤ 512 }
+    requires { size ≤ MOST_COLUMN_BYTES }
     ensures value { result ≡ column_bytes 1 size }
-    ensures most { result ≤ 512 }
+    ensures most { result ≤ MOST_COLUMN_BYTES }
 {
     size.next_multiple_of(64)
 }
@@ -49,7 +35,7 @@ fn is_too_large(registry: &Registry, parts: &[PartExpr]) -> bool
 {
     let mut bytes = ID_BYTES;
     for part in parts {
-        bytes += column_bytes(column_size(registry, part.ty));
+        bytes += column_bytes(registry.column_size(part.ty));
         if bytes > COLUMN_ROOM {
             return true;
         }

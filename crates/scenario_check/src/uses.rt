@@ -3,12 +3,10 @@ ghost use Rattle.std.specs.Prelude.{◌≡◌, ◌++◌, [], flat_map};
 ghost use Rattle.scenario_record.specs.Uses.{in_ref, in_expr, in_value, in_part, in_act, in_command, in_assign, in_switch, uses_of, uses_of_assigns};
 ghost use Rattle.scenario_check.specs.Found.{put_type, nothing, with_uses};
 
+use ent_types::limits::MOST_TYPES;
 use ent_types::{TypeId, TypeSet};
 use expr_trees::{Assign, CommandText, Expr, PartExpr, RefExpr, Switch, ValueExpr};
 use scenario_record::{CommandEntry, SystemEntry};
-
-/// The greatest number of types.
-const MOST_TYPES: u16 = 256;
 
 /// The types that texts name.
 #[derive(Clone, Copy, Debug)]
@@ -25,7 +23,7 @@ pub(crate) struct Touched {
 pub(crate) fn put(found: TypeSet, ty: TypeId) -> TypeSet
     ensures { result ≡ put_type found ty.0 }
 {
-    if ty.0 >= MOST_TYPES {
+    if usize::from(ty.0) >= MOST_TYPES {
         return found;
     }
     found.with(ty)

@@ -1,6 +1,7 @@
 -- The tables of a system's commands: `buffer`, `when`, `key`, `do`.
 use Rattle.std.specs.Prelude.{ℕ, pos, ◌+◌, Bool, ◌==◌, if◌then◌else◌, List, [], ◌∷◌, ◌++◌, codes, Option, None, Some, Ok}
 use Rattle.toml.specs.Data.{Data}
+use Rattle.ent_types.specs.declared.limits.TheConstants.{MOST_COMMANDS}
 use Rattle.ent_types.specs.declared.point.Point.{Point}
 use Rattle.ent_types.specs.declared.point.Point.TheVariants.{BeginInitialization, EndInitialization, BeginSimulation, EndSimulation, BeginPresentation}
 use Rattle.ent_types.specs.declared.type_info.TypeInfo.{TypeInfo}
@@ -80,6 +81,5 @@ command registry bound earlier d =
 abbrev pub one_more_command : List TypeInfo → List ℕ → List CommandEntry → Data → Reading (List CommandEntry)
 one_more_command registry bound earlier d = command registry bound earlier d >>= λ c. Ok (earlier ++ c ∷ [])
 
--- at most 16 commands
 abbrev pub command_list : List TypeInfo → List ℕ → Data → Reading (List CommandEntry)
-command_list registry bound d = list_up_to 16 d >>= each_over (one_more_command registry bound) [] 0
+command_list registry bound d = list_up_to MOST_COMMANDS d >>= each_over (one_more_command registry bound) [] 0

@@ -2,6 +2,7 @@
 use Rattle.std.specs.Prelude.{ℕ, not, ◌&&◌, nat_le, List, [], ◌∷◌, length, codes, Option, None, Some, Ok, Err}
 use Rattle.std.specs.Option.{unwrap_or}
 use Rattle.toml.specs.Data.{Data, Members}
+use Rattle.ent_types.specs.declared.limits.TheConstants.{MOST_FRAMES, LONGEST_FILE_NAME}
 use Rattle.ent_types.specs.declared.type_info.TypeInfo.{TypeInfo}
 use Rattle.expr_trees.specs.declared.tree.CommandText.{CommandText}
 use Rattle.scenario_record.specs.declared.fault.Cause.TheVariants.{Missing, BadName, BadShape}
@@ -14,18 +15,18 @@ use Rattle.scenario_read.specs.declared.events.SceneKeys.{SceneKeys}
 use Rattle.scenario_read.specs.ReadKeys.{known_table, required, perhaps, number, text, name}
 use Rattle.scenario_read.specs.ReadTexts.{event_command}
 
--- a file name of 1 to 255 bytes
+-- a file name, which isn't empty
 abbrev pub file_name : Data → Reading (List ℕ)
 file_name d =
     text d >>= λ s.
-    unless (fault_if (not (nat_le 1 (length s) && nat_le (length s) 255)) BadName) (Ok s)
+    unless (fault_if (not (nat_le 1 (length s) && nat_le (length s) LONGEST_FILE_NAME)) BadName) (Ok s)
 
 -- the keys of an event that loads or unloads a scene
 abbrev pub scene_keys : Members → Reading SceneKeys
 scene_keys ms =
     perhaps (codes "load") file_name ms >>= λ load.
     perhaps (codes "as") name ms >>= λ label.
-    perhaps (codes "delay") (number 0 100000) ms >>= λ delay.
+    perhaps (codes "delay") (number 0 MOST_FRAMES) ms >>= λ delay.
     perhaps (codes "unload") name ms >>= λ unload.
     Ok (record { load = load; label = label; delay = delay; unload = unload })
 
@@ -51,7 +52,7 @@ act_of operation keys = act_by operation keys.load keys.unload keys.label keys.d
 unfoldable pub event : List TypeInfo → Data → Reading EventEntry
 event registry d =
     known_table (codes "frame" ∷ codes "do" ∷ codes "load" ∷ codes "as" ∷ codes "delay" ∷ codes "unload" ∷ []) d >>= λ ms.
-    required (codes "frame") (number 1 100000) ms >>= λ frame.
+    required (codes "frame") (number 1 MOST_FRAMES) ms >>= λ frame.
     perhaps (codes "do") (event_command registry) ms >>= λ operation.
     scene_keys ms >>= λ keys.
     act_of operation keys >>= λ act.

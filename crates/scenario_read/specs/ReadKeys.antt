@@ -3,6 +3,7 @@
 use Rattle.std.specs.Prelude.{ℕ, pos, ◌+◌, Bool, ◌&&◌, nat_le, nat_lt, if◌then◌else◌, List, [], ◌∷◌, Option, None, Some, Ok, Err}
 use Rattle.std.specs.List.{list_any}
 use Rattle.toml.specs.Data.{Data, string, integer, boolean, array, table, Items, no_items, item, Members, no_members, member, get_member}
+use Rattle.ent_types.specs.declared.limits.TheConstants.{MOST_ORDER_NAMES}
 use Rattle.ent_types.specs.Names.{name_of}
 use Rattle.ent_types.specs.Types.{same_name}
 use Rattle.scenario_record.specs.declared.fault.Cause.TheVariants.{UnknownKey, Missing, WrongType, TooMany, NumberRange, BadName}
@@ -114,6 +115,6 @@ abbrev pub each_member : {A : Type 0} → (List ℕ → Data → Reading A) → 
 each_member read no_members = Ok []
 each_member read (member k d ms) = under k (read k d) >>= λ x. changed (λ xs. x ∷ xs) (each_member read ms)
 
--- a list of at most 64 names
+-- the names under `before` or `after`
 abbrev pub names : Data → Reading (List (List ℕ))
-names d = each_up_to 64 name d
+names d = each_up_to MOST_ORDER_NAMES name d

@@ -1,6 +1,7 @@
 -- Which rows a system visits: the five clauses and the filters.
 use Rattle.std.specs.Prelude.{ℕ, ◌+◌, false, not, ◌==◌, List, [], ◌∷◌, length, codes, fold, Ok, Err}
 use Rattle.toml.specs.Data.{Data, integer, Items, no_items, item, Members}
+use Rattle.ent_types.specs.declared.limits.TheConstants.{MOST_TYPES, MOST_CHANGED, MOST_SHARED_FILTERS}
 use Rattle.ent_types.specs.declared.kinds.FieldKind.{FieldKind}
 use Rattle.ent_types.specs.declared.type_info.FieldInfo.{FieldInfo}
 use Rattle.ent_types.specs.declared.type_info.TypeInfo.{TypeInfo}
@@ -25,7 +26,7 @@ use Rattle.scenario_read.specs.ReadTypeLists.{type_of_key, type_list, none_besid
 
 -- a list of types that the clauses before it don't name
 abbrev pub clause : List ℕ → List TypeInfo → Allowed → List ℕ → Members → Reading Named
-clause key registry allowed taken ms = optional key (none_beside taken) (type_list 256 registry allowed taken) ms
+clause key registry allowed taken ms = optional key (none_beside taken) (type_list MOST_TYPES registry allowed taken) ms
 
 abbrev pub clauses : List TypeInfo → Members → Reading Clauses
 clauses registry ms =
@@ -42,9 +43,9 @@ bound_types c = fold (λ set ty. with_type set ty) c.all c.disabled
 
 -- ---- the filters
 
--- at most two types of `all` that aren't shared
+-- types of `all` that aren't shared
 abbrev pub changed_types : List TypeInfo → List ℕ → Data → Reading (List ℕ)
-changed_types registry all d = changed (λ n. n.found) (type_list 2 registry (UnsharedOf all) [] d)
+changed_types registry all d = changed (λ n. n.found) (type_list MOST_CHANGED registry (UnsharedOf all) [] d)
 
 -- an integer in the range of its field
 abbrev pub shared_value : FieldKind → Data → Reading Value
@@ -72,9 +73,9 @@ shared_part registry all key d =
     type_of_key registry (SharedOf all) key >>= λ ty.
     shared_part_of registry ds ty
 
--- at most two of them
+-- shared types of `all`, with their values
 abbrev pub shared_table : List TypeInfo → List ℕ → Data → Reading (List Part)
-shared_table registry all d = members_up_to 2 d >>= each_member (shared_part registry all)
+shared_table registry all d = members_up_to MOST_SHARED_FILTERS d >>= each_member (shared_part registry all)
 
 abbrev pub filters : List TypeInfo → List ℕ → Members → Reading Filters
 filters registry all ms =

@@ -3,6 +3,7 @@ use Rattle.std.specs.Prelude.{ℕ, List, [], ◌∷◌, codes, Option, None, Som
 use Rattle.std.specs.Str.{is_utf8}
 use Rattle.toml.specs.Data.{Members}
 use Rattle.toml.specs.Parse.{parse_document}
+use Rattle.ent_types.specs.declared.limits.TheConstants.{MOST_FRAMES, MOST_SPAWNS, MOST_GROUPS, MOST_SYSTEMS, MOST_EVENTS}
 use Rattle.ent_types.specs.declared.type_info.TypeInfo.{TypeInfo}
 use Rattle.ent_types.specs.Registries.{built_in_types}
 use Rattle.scenario_record.specs.declared.fault.Cause.TheVariants.{NotToml}
@@ -23,7 +24,7 @@ use Rattle.scenario_read.specs.ReadStages.{is_placed, is_unbuilt}
 -- `frames`, `first_system_version`, `first_entity_version`
 abbrev pub numbers : Members → Reading Numbers
 numbers ms =
-    required (codes "frames") (number 0 100000) ms >>= λ f.
+    required (codes "frames") (number 0 MOST_FRAMES) ms >>= λ f.
     optional (codes "first_system_version") 1 (number 1 4294967295) ms >>= λ s.
     optional (codes "first_entity_version") 1 (number 1 4294967295) ms >>= λ e.
     Ok (record { frames = f; first_system_version = s; first_entity_version = e })
@@ -34,14 +35,14 @@ types ms = optional (codes "type") built_in_types registry_of ms
 
 -- `spawn`
 abbrev pub spawns : List TypeInfo → Members → Reading (List SpawnEntry)
-spawns registry ms = optional (codes "spawn") [] (each_up_to 1024 (spawn registry)) ms
+spawns registry ms = optional (codes "spawn") [] (each_up_to MOST_SPAWNS (spawn registry)) ms
 
 -- `group`, `system`, `event`
 abbrev pub schedule : List TypeInfo → Members → Reading Schedule
 schedule registry ms =
-    optional (codes "group") [] (each_up_to 64 group) ms >>= λ group.
-    optional (codes "system") [] (each_up_to 256 (system registry)) ms >>= λ system.
-    optional (codes "event") [] (each_up_to 4096 (event registry)) ms >>= λ event.
+    optional (codes "group") [] (each_up_to MOST_GROUPS group) ms >>= λ group.
+    optional (codes "system") [] (each_up_to MOST_SYSTEMS (system registry)) ms >>= λ system.
+    optional (codes "event") [] (each_up_to MOST_EVENTS (event registry)) ms >>= λ event.
     Ok (record { group = group; system = system; event = event })
 
 abbrev pub known_at_top : List (List ℕ)

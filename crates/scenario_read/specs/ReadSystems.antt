@@ -2,6 +2,7 @@
 -- each row.
 use Rattle.std.specs.Prelude.{ℕ, List, [], ◌∷◌, codes, Ok}
 use Rattle.toml.specs.Data.{Data, Members}
+use Rattle.ent_types.specs.declared.limits.TheConstants.{MOST_FRAMES, MOST_ASSIGNS, MOST_SWITCHES}
 use Rattle.ent_types.specs.declared.type_info.TypeInfo.{TypeInfo}
 use Rattle.scenario_record.specs.declared.fault.Cause.TheVariants.{BadShape}
 use Rattle.scenario_record.specs.declared.record.SystemEntry.{SystemEntry}
@@ -21,14 +22,14 @@ heading ms =
     required (codes "name") name ms >>= λ n.
     optional (codes "group") default_group name ms >>= λ group.
     placement ms >>= λ p.
-    optional (codes "every") 1 (number 1 100000) ms >>= λ every.
+    optional (codes "every") 1 (number 1 MOST_FRAMES) ms >>= λ every.
     Ok (record { name = n; group = group; placement = p; every = every })
 
 -- what is done with each row
 abbrev pub acts : List TypeInfo → List ℕ → Members → Reading Acts
 acts registry bound ms =
-    optional (codes "set") [] (each_up_to 64 (system_assign registry bound)) ms >>= λ set.
-    optional (codes "enable") [] (each_up_to 16 (system_switch registry bound)) ms >>= λ enable.
+    optional (codes "set") [] (each_up_to MOST_ASSIGNS (system_assign registry bound)) ms >>= λ set.
+    optional (codes "enable") [] (each_up_to MOST_SWITCHES (system_switch registry bound)) ms >>= λ enable.
     optional (codes "command") [] (command_list registry bound) ms >>= λ command.
     Ok (record { set = set; enable = enable; command = command })
 

@@ -3,8 +3,9 @@ use Rattle.std.specs.Prelude.{ℕ, ◌+◌, Bool, true, not, ◌&&◌, ◌==◌,
 use Rattle.toml.specs.Data.{Data}
 use Rattle.ent_types.specs.declared.type_info.TypeInfo.{TypeInfo}
 use Rattle.ent_types.specs.Registries.{type_at, type_named}
+use Rattle.ent_types.specs.declared.entity.TheConstants.TypeId.{SCENE_TAG}
+use Rattle.ent_types.specs.Types.{is_shared}
 use Rattle.ent_types.specs.TypeSets.{has_type, with_type}
-use Rattle.expr_read.specs.ScopeOf.{is_shared}
 use Rattle.scenario_record.specs.declared.fault.Cause.TheVariants.{UnknownName, BadKind, DuplicateName}
 use Rattle.scenario_record.specs.Readings.{Reading, ◌>>=◌, unless, or_fault, fault_if}
 use Rattle.scenario_read.specs.declared.type_lists.Allowed.{Allowed}
@@ -12,10 +13,10 @@ use Rattle.scenario_read.specs.declared.type_lists.Allowed.TheVariants.{AnyType,
 use Rattle.scenario_read.specs.declared.type_lists.Named.{Named}
 use Rattle.scenario_read.specs.ReadKeys.{name, name_in, list_up_to, each_over}
 
--- whether a type of the registry is allowed at a place; type 2 is SceneTag
+-- whether a type of the registry is allowed at a place
 abbrev pub is_allowed : List TypeInfo → Allowed → ℕ → Bool
 is_allowed registry AnyType ty = true
-is_allowed registry Spawned ty = not (ty == 2)
+is_allowed registry Spawned ty = not (ty == SCENE_TAG.0)
 is_allowed registry Enableable ty = (type_at registry ty).enableable
 is_allowed registry (UnsharedOf types) ty = has_type types ty && not (is_shared (type_at registry ty).kind)
 is_allowed registry (SharedOf types) ty = has_type types ty && is_shared (type_at registry ty).kind

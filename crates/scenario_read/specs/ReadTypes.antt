@@ -2,12 +2,14 @@
 use Rattle.std.specs.Prelude.{ℕ, ◌-◌, false, not, if◌then◌else◌, List, [], ◌∷◌, ◌++◌, length, take, drop, codes, Option, None, Some, is_some, option_map, Ok}
 use Rattle.std.specs.List.{list_any}
 use Rattle.toml.specs.Data.{Data, Members}
+use Rattle.ent_types.specs.declared.limits.TheConstants.{MOST_FIELDS, MOST_TYPES}
 use Rattle.ent_types.specs.declared.kinds.Kind.{Kind}
 use Rattle.ent_types.specs.declared.kinds.Kind.TheVariants.{Plain, Tag, Shared, Cleanup}
 use Rattle.ent_types.specs.declared.kinds.FieldKind.{FieldKind}
 use Rattle.ent_types.specs.declared.kinds.FieldKind.TheVariants.{I32, I64, Ref}
 use Rattle.ent_types.specs.declared.type_info.FieldInfo.{FieldInfo}
 use Rattle.ent_types.specs.declared.type_info.TypeInfo.{TypeInfo}
+use Rattle.ent_types.specs.declared.entity.TheConstants.{BUILT_IN_TYPES}
 use Rattle.ent_types.specs.Names.{name_of}
 use Rattle.ent_types.specs.Types.{same_name, is_lawful_type}
 use Rattle.ent_types.specs.Registries.{type_named, built_in_types}
@@ -57,7 +59,7 @@ abbrev pub one_more_field : List FieldInfo → Data → Reading (List FieldInfo)
 one_more_field earlier d = text d >>= λ s. field_in earlier s >>= λ f. Ok (earlier ++ f ∷ [])
 
 abbrev pub fields : Data → Reading (List FieldInfo)
-fields d = list_up_to 64 d >>= each_over one_more_field [] 0
+fields d = list_up_to MOST_FIELDS d >>= each_over one_more_field [] 0
 
 -- ---- the table
 
@@ -86,6 +88,6 @@ type_in registry d =
 abbrev pub one_more_type : List TypeInfo → Data → Reading (List TypeInfo)
 one_more_type registry d = type_in registry d >>= λ t. Ok (registry ++ t ∷ [])
 
--- at most 253 types, which with the built-in ones are 256
+-- the built-in types count, too
 abbrev pub registry_of : Data → Reading (List TypeInfo)
-registry_of d = list_up_to 253 d >>= each_over one_more_type built_in_types 0
+registry_of d = list_up_to (MOST_TYPES - BUILT_IN_TYPES) d >>= each_over one_more_type built_in_types 0

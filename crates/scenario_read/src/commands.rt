@@ -7,15 +7,13 @@ ghost use Rattle.scenario_read.specs.ReadCommands.{point, same_point, name_made,
 use crate::form::{Form, Step, each_over, optional, required};
 use crate::keys::{known_table, list_up_to, text};
 use crate::texts::{ActText, ExprText, SystemText};
+use ent_types::limits::MOST_COMMANDS;
 use ent_types::{Memory, Name, Point, Registry, Sequence, TypeSet};
 use expr_read::Made;
 use expr_trees::{CommandText, Expr, Variable};
 use scenario_record::{Cause, CommandEntry, ScenarioFault, bad};
 use std::alloc::Global;
 use toml::Value;
-
-/// The greatest number of commands of a system.
-const MOST_COMMANDS: usize = 16;
 
 /// The point at which a command is played.
 #[derive(Drop)]
@@ -63,7 +61,7 @@ fn name_made(act: &CommandText) -> Option<Name>
 
 /// The names that the commands make, as a command into the buffer sees them.
 fn made_by(alloc: Global, buffer: Point, earlier: &[CommandEntry]) -> Result<Vec<Made>, Memory>
-    requires { length earlier.now ≤ 16 }
+    requires { length earlier.now ≤ MOST_COMMANDS }
     ensures { IfOk result (λ made. made.items ≡ made_from 0 buffer earlier.now) }
 {
     let mut made = Vec::new(alloc);
@@ -88,7 +86,7 @@ fn command_in(
     earlier: &[CommandEntry],
     value: &Value,
 ) -> Result<CommandEntry, ScenarioFault>
-    requires { length earlier.now ≤ 16 }
+    requires { length earlier.now ≤ MOST_COMMANDS }
     ensures { Answers (command registry.now bound.now earlier.now (view value.now)) result }
 {
     let table = known_table(alloc, &["buffer", "when", "key", "do"], value)?;
@@ -132,7 +130,7 @@ impl<'a> Step for CommandsForm<'a> {
 
     ghost steps = { λ it earlier d. one_more_command it.registry.now it.bound.now earlier d };
 
-    ghost takes = { λ place. place < 16 };
+    ghost takes = { λ place. place < MOST_COMMANDS };
 
     ghost counts = { λ count commands. length commands ≡ count };
 

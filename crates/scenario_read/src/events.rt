@@ -6,17 +6,12 @@ ghost use Rattle.scenario_read.specs.ReadEvents.{file_name, scene_keys, load_act
 use crate::form::{Form, missing, perhaps, required};
 use crate::keys::{NameForm, NumberForm, known_table, text};
 use crate::texts::OperationForm;
+use ent_types::limits::{LONGEST_FILE_NAME, MOST_FRAMES};
 use ent_types::{Name, Registry, Sequence};
 use expr_trees::CommandText;
 use scenario_record::{Cause, EventAct, EventEntry, FileName, ScenarioFault, bad};
 use std::alloc::Global;
 use toml::{Table, Value};
-
-/// The greatest number of bytes of a file's name.
-const LONGEST_FILE_NAME: usize = 255;
-
-/// The greatest frame of an event, and the longest delay of a load.
-const MOST_FRAMES: u32 = 100_000;
 
 /// A file name, of 1 to 255 bytes.
 #[derive(Drop)]

@@ -6,6 +6,7 @@ ghost use Rattle.scenario_read.specs.ReadGroups.{placement, in_two_bands, defaul
 
 use crate::form::{Form, ListOf, optional, required};
 use crate::keys::{NAMES, NameForm, TruthForm, known_table};
+use ent_types::limits::MOST_GROUPS;
 use ent_types::{Name, Sequence};
 use scenario_record::{Cause, GroupEntry, ScenarioFault, bad};
 use std::alloc::Global;
@@ -91,6 +92,6 @@ impl Form for GroupForm {
 
 /// The groups of a scenario.
 pub(crate) const GROUPS: ListOf<GroupForm> = ListOf {
-    most: 64,
+    most: MOST_GROUPS,
     item: GroupForm,
 };

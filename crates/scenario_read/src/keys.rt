@@ -9,6 +9,7 @@ ghost use Rattle.scenario_read.specs.ReadKeys.{unknown_key, truth, number, text,
 
 use crate::form::{Form, ListOf};
 use ent_types::Name;
+use ent_types::limits::MOST_ORDER_NAMES;
 use scenario_record::{Cause, ScenarioFault, bad, below_key};
 use std::alloc::Global;
 use toml::{Table, Value};
@@ -209,8 +210,8 @@ impl Form for NameForm {
     }
 }
 
-/// A list of names.
+/// The names under `before` or `after`.
 pub(crate) const NAMES: ListOf<NameForm> = ListOf {
-    most: 64,
+    most: MOST_ORDER_NAMES,
     item: NameForm,
 };

@@ -10,19 +10,11 @@ ghost use Rattle.scenario_read.specs.ReadQueries.{clause, clauses, bound_types, 
 use crate::form::{Form, KeyForm, at_place, each_member, optional};
 use crate::keys::{TruthForm, list, members_up_to};
 use crate::type_lists::{Allowed, Named, TypesForm, type_of_key};
+use ent_types::limits::{MOST_CHANGED, MOST_SHARED_FILTERS, MOST_TYPES};
 use ent_types::{FieldInfo, FieldKind, Part, Registry, Sequence, TypeId, TypeSet, Values};
 use scenario_record::{Cause, ScenarioFault, bad};
 use std::alloc::Global;
 use toml::{Table, Value};
-
-/// The greatest number of types of a clause.
-const MOST_IN_CLAUSE: usize = 256;
-
-/// The greatest number of types whose writes a system follows.
-const MOST_CHANGED: usize = 2;
-
-/// The greatest number of shared types by whose values a system picks its blocks.
-const MOST_SHARED: usize = 2;
 
 // ---- the five clauses
 
@@ -53,7 +45,7 @@ fn clause(
     ensures { Answers (clause key.now registry.now allowed.now taken.now (table_view table.now)) result }
 {
     let types = TypesForm {
-        most: MOST_IN_CLAUSE,
+        most: MOST_TYPES,
         registry,
         allowed,
         taken,
@@ -243,7 +235,7 @@ impl<'a> Form for SharedForm<'a> {
     ghost reads = { λ it d. shared_table it.registry.now it.all.now d };
 
     fn read(&self, alloc: Global, value: &Value) -> Result<Sequence<Part>, ScenarioFault> {
-        let table = members_up_to(alloc, MOST_SHARED, value)?;
+        let table = members_up_to(alloc, MOST_SHARED_FILTERS, value)?;
         let part = SharedPartForm {
             registry: self.registry,
             all: self.all,

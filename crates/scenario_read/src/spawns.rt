@@ -10,14 +10,12 @@ use crate::keys::{NumberForm, known_table, list, members, text};
 use crate::queries::fits;
 use crate::texts::{spawn_expr, spawn_ref};
 use crate::type_lists::{Allowed, Named, TypeStep, type_of_key};
+use ent_types::limits::{MOST_ENTITIES, MOST_TYPES};
 use ent_types::{FieldInfo, FieldKind, Registry, Sequence, TypeId, TypeSet};
 use expr_trees::{Expr, PartExpr, ValueExpr};
 use scenario_record::{Cause, ScenarioFault, SpawnEntry, bad};
 use std::alloc::Global;
 use toml::Value;
-
-/// The greatest number of rows of a spawn.
-const MOST_ROWS: u32 = 1_048_576;
 
 // ---- the values of a part
 
@@ -149,7 +147,7 @@ impl<'a> KeyForm for PartForm<'a> {
 
     ghost reads = { λ it key d. part it.registry.now key d };
 
-    ghost sound = { λ _ part. part.ty.0 < 256 };
+    ghost sound = { λ _ part. part.ty.0 < MOST_TYPES };
 
     fn read(&self, alloc: Global, key: &str, value: &Value) -> Result<PartExpr, ScenarioFault> {
         let values = list(alloc, value)?;
@@ -170,7 +168,7 @@ impl<'a> Form for WithForm<'a> {
 
     ghost reads = { λ it d. with_table it.registry.now d };
 
-    ghost sound = { λ _ parts. All (λ p. p.ty.0 < 256) parts };
+    ghost sound = { λ _ parts. All (λ p. p.ty.0 < MOST_TYPES) parts };
 
     fn read(&self, alloc: Global, value: &Value) -> Result<Sequence<PartExpr>, ScenarioFault> {
         let table = members(alloc, value)?;
@@ -185,7 +183,7 @@ impl<'a> Form for WithForm<'a> {
 
 /// Returns the types of these parts.
 fn types_of(parts: &[PartExpr]) -> TypeSet
-    requires { All (λ p. p.ty.0 < 256) parts.now }
+    requires { All (λ p. p.ty.0 < MOST_TYPES) parts.now }
     ensures { result ≡ part_types parts.now }
 {
     let mut types = TypeSet::empty();
@@ -241,7 +239,7 @@ impl<'a> Form for SpawnForm<'a> {
         let registry = self.registry;
         let counts = NumberForm {
             low: 1,
-            high: MOST_ROWS,
+            high: MOST_ENTITIES,
         };
         let table = known_table(alloc, &["count", "with", "disabled"], value)?;
         let count = optional(alloc, "count", 1, &counts, table)?;

@@ -10,20 +10,12 @@ use crate::groups::{Placement, default_group, placement_of};
 use crate::keys::{NameForm, NumberForm, known_table};
 use crate::queries::{Clauses, Filters, bound_types, clauses_of, filters_of};
 use crate::texts::{AssignText, SwitchText, SystemText};
+use ent_types::limits::{MOST_ASSIGNS, MOST_FRAMES, MOST_SWITCHES};
 use ent_types::{Name, Registry, Sequence, TypeSet};
 use expr_trees::{Assign, Switch};
 use scenario_record::{Cause, CommandEntry, ScenarioFault, SystemEntry, bad};
 use std::alloc::Global;
 use toml::{Table, Value};
-
-/// A system runs once in at most this number of frames.
-const MOST_FRAMES: u32 = 100_000;
-
-/// The greatest number of assignments of a system.
-const MOST_ASSIGNS: usize = 64;
-
-/// The greatest number of switches of a system.
-const MOST_SWITCHES: usize = 16;
 
 /// The keys of a system, in reading order.
 const KEYS: [&str; 20] = [

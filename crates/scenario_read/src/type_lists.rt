@@ -1,14 +1,13 @@
 //! Lists of type names, and the tables whose keys are type names.
-ghost use Rattle.std.specs.Prelude.{◌≡◌, ◌<◌, length, IfOk, IfSome};
+ghost use Rattle.std.specs.Prelude.{◌≡◌, ◌<◌, length, IfOk};
 ghost use Rattle.toml.specs.View.{view};
-ghost use Rattle.ent_types.specs.Registries.{type_id_named};
-ghost use Rattle.expr_read.specs.ScopeOf.{is_shared};
 ghost use Rattle.scenario_record.specs.Readings.{Answers, AnswersAs};
 ghost use Rattle.scenario_read.specs.ReadTypeLists.{is_allowed, allowed_type, known_type, type_of_key, new_type_in, type_of_item, one_more_type, none_beside, found_one, type_list};
 
 use crate::form::{Form, Step, each_over};
 use crate::keys::{NameForm, list_up_to, name_in};
-use ent_types::{Kind, Name, Registry, TypeId, TypeSet};
+use ent_types::limits::MOST_TYPES;
+use ent_types::{Name, Registry, TypeId, TypeSet};
 use scenario_record::{Cause, ScenarioFault, bad};
 use std::alloc::Global;
 use toml::Value;
@@ -30,34 +29,19 @@ pub(crate) enum Allowed {
     EnableableOf(TypeSet),
 }
 
-/// The number of the type `SceneTag`.
-const SCENE_TAG: u16 = 2;
-
-fn is_shared(kind: Kind) -> bool
-    ensures { result ≡ is_shared kind }
-{
-    match kind {
-        Kind::Shared => true,
-        Kind::Plain => false,
-        Kind::Tag => false,
-        Kind::Cleanup => false,
-    }
-}
-
 impl Allowed {
     /// `true` if a type is allowed here.
     fn allows(&self, registry: &Registry, ty: TypeId) -> bool
-        requires known { ty.0 < length registry.now }
-        requires small { ty.0 < 256 }
+        requires { ty.0 < MOST_TYPES }
         ensures { result ≡ is_allowed registry.now self.now ty.0 }
     {
         match self {
             Allowed::AnyType => true,
-            Allowed::Spawned => ty.0 != SCENE_TAG,
-            Allowed::Enableable => registry.info(ty).enableable,
-            Allowed::UnsharedOf(types) => types.has(ty) && !is_shared(registry.info(ty).kind),
-            Allowed::SharedOf(types) => types.has(ty) && is_shared(registry.info(ty).kind),
-            Allowed::EnableableOf(types) => types.has(ty) && registry.info(ty).enableable,
+            Allowed::Spawned => ty != TypeId::SCENE_TAG,
+            Allowed::Enableable => registry.is_enableable(ty),
+            Allowed::UnsharedOf(types) => types.has(ty) && !registry.is_shared(ty),
+            Allowed::SharedOf(types) => types.has(ty) && registry.is_shared(ty),
+            Allowed::EnableableOf(types) => types.has(ty) && registry.is_enableable(ty),
         }
     }
 }
@@ -84,7 +68,7 @@ impl Named {
 
     /// Returns this with one more type.
     fn with(&self, ty: TypeId) -> Named
-        requires { ty.0 < 256 }
+        requires { ty.0 < MOST_TYPES }
         ensures { result ≡ found_one self.now ty.0 }
     {
         Named {
@@ -94,15 +78,6 @@ impl Named {
     }
 }
 
-/// Returns the type with a name. A registry has at most 256 types.
-fn find(registry: &Registry, name: &Name) -> Option<TypeId>
-    ensures place { result ≡ type_id_named registry.now name.now }
-    ensures within { IfSome result (λ ty. (ty.0 < length registry.now) × (ty.0 < 256)) }
-{
-    let _most = registry.len();
-    registry.find(name)
-}
-
 /// Checks that a type is allowed here.
 fn allowed_type(
     alloc: Global,
@@ -110,8 +85,7 @@ fn allowed_type(
     allowed: &Allowed,
     ty: TypeId,
 ) -> Result<TypeId, ScenarioFault>
-    requires known { ty.0 < length registry.now }
-    requires small { ty.0 < 256 }
+    requires { ty.0 < MOST_TYPES }
     ensures answer { AnswersAs (λ ty. ty.0) (allowed_type registry.now allowed.now ty.0) result }
     ensures same { IfOk result (λ found. found ≡ ty) }
 {
@@ -128,9 +102,9 @@ fn known_type(
     name: &Name,
 ) -> Result<TypeId, ScenarioFault>
     ensures answer { AnswersAs (λ ty. ty.0) (known_type registry.now allowed.now name.now) result }
-    ensures within { IfOk result (λ ty. (ty.0 < length registry.now) × (ty.0 < 256)) }
+    ensures within { IfOk result (λ ty. (ty.0 < length registry.now) × (ty.0 < MOST_TYPES)) }
 {
-    match find(registry, name) {
+    match registry.find(name) {
         Some(ty) => allowed_type(alloc, registry, allowed, ty),
         None => Err(bad(alloc, Cause::UnknownName)),
     }
@@ -144,7 +118,7 @@ pub(crate) fn type_of_key(
     key: &str,
 ) -> Result<TypeId, ScenarioFault>
     ensures answer { AnswersAs (λ ty. ty.0) (type_of_key registry.now allowed.now key.now) result }
-    ensures within { IfOk result (λ ty. (ty.0 < length registry.now) × (ty.0 < 256)) }
+    ensures within { IfOk result (λ ty. (ty.0 < length registry.now) × (ty.0 < MOST_TYPES)) }
 {
     let name = name_in(alloc, key)?;
     known_type(alloc, registry, allowed, &name)
@@ -152,7 +126,7 @@ pub(crate) fn type_of_key(
 
 /// Checks that a type isn't taken.
 fn new_type_in(alloc: Global, taken: &TypeSet, ty: TypeId) -> Result<TypeId, ScenarioFault>
-    requires { ty.0 < 256 }
+    requires { ty.0 < MOST_TYPES }
     ensures answer { AnswersAs (λ ty. ty.0) (new_type_in taken.now ty.0) result }
     ensures same { IfOk result (λ found. found ≡ ty) }
 {
@@ -170,7 +144,7 @@ fn type_of_item(
     value: &Value,
 ) -> Result<TypeId, ScenarioFault>
     ensures answer { AnswersAs (λ ty. ty.0) (type_of_item registry.now allowed.now taken.now (view value.now)) result }
-    ensures within { IfOk result (λ ty. ty.0 < 256) }
+    ensures within { IfOk result (λ ty. ty.0 < MOST_TYPES) }
 {
     let name = NameForm.read(alloc, value)?;
     let ty = known_type(alloc, registry, allowed, &name)?;

@@ -1,5 +1,5 @@
 //! Types, as a scenario declares them.
-ghost use Rattle.std.specs.Prelude.{◌≡◌, ◌≤◌, ◌<◌, ◌+◌, ◌∷◌, ◌++◌, [], codes, length, None, IfOk, IsTrue, OnOk};
+ghost use Rattle.std.specs.Prelude.{◌≡◌, ◌≤◌, ◌<◌, ◌+◌, ◌-◌, ◌∷◌, ◌++◌, [], codes, length, None, IfOk, IsTrue, OnOk};
 ghost use Rattle.std.specs.List.{list_any};
 ghost use Rattle.toml.specs.View.{view, table_view};
 ghost use Rattle.ent_types.specs.Types.{same_name, is_lawful_type};
@@ -11,18 +11,14 @@ ghost use Rattle.scenario_read.specs.ReadTypes.{kind, field_kind_named, field_of
 
 use crate::form::{Form, Step, each_over, optional, required, under};
 use crate::keys::{NameForm, TruthForm, known_table, list_up_to, text, value_of};
+use ent_types::limits::{MOST_FIELDS, MOST_TYPES};
 use ent_types::{
-    FieldInfo, FieldKind, Kind, Memory, Name, Registry, RegistryFault, Sequence, TypeInfo,
+    BUILT_IN_TYPES, FieldInfo, FieldKind, Kind, Memory, Name, Registry, RegistryFault, Sequence,
+    TypeInfo,
 };
 use scenario_record::{Cause, ScenarioFault, bad, below_key};
 use std::alloc::Global;
 use toml::{Table, Value};
-
-/// The greatest number of declared types: with the built-in ones there are 256.
-const MOST_DECLARED: usize = 253;
-
-/// The greatest number of fields of a type.
-const MOST_FIELDS: usize = 64;
 
 // ---- the kind of a type
 
@@ -139,7 +135,7 @@ impl Form for FieldsForm {
 
     ghost reads = { λ _ d. fields d };
 
-    ghost sound = { λ _ fields. length fields ≤ 64 };
+    ghost sound = { λ _ fields. length fields ≤ MOST_FIELDS };
 
     fn read(&self, alloc: Global, value: &Value) -> Result<Sequence<FieldInfo>, ScenarioFault> {
         let values = list_up_to(alloc, MOST_FIELDS, value)?;
@@ -151,7 +147,7 @@ impl Form for FieldsForm {
 
 fn type_keys(alloc: Global, table: &Table) -> Result<TypeInfo, ScenarioFault>
     ensures answer { Answers (type_keys (table_view table.now)) result }
-    ensures few { IfOk result (λ info. length info.fields ≤ 64) }
+    ensures few { IfOk result (λ info. length info.fields ≤ MOST_FIELDS) }
 {
     let name = required(alloc, "name", &NameForm, table)?;
     let kind = optional(alloc, "kind", Kind::Plain, &KindForm, table)?;
@@ -186,7 +182,7 @@ fn new_type(alloc: Global, registry: &Registry, info: TypeInfo) -> Result<TypeIn
 #[tactic(auto, unfolding(crate::specs::ReadTypes::type_in))]
 fn type_in(alloc: Global, registry: &Registry, value: &Value) -> Result<TypeInfo, ScenarioFault>
     ensures answer { Answers (type_in registry.now (view value.now)) result }
-    ensures few { IfOk result (λ new. length new.fields ≤ 64) }
+    ensures few { IfOk result (λ new. length new.fields ≤ MOST_FIELDS) }
     ensures lawful { IfOk result (λ new. IsTrue (is_lawful_type new)) }
     ensures welcome { IfOk result (λ new. type_named registry.now new.name ≡ None) }
 {
@@ -222,9 +218,9 @@ impl Step for RegistryForm {
 
     ghost steps = { λ _ registry d. one_more_type registry d };
 
-    ghost takes = { λ place. place < 253 };
+    ghost takes = { λ place. place < MOST_TYPES - BUILT_IN_TYPES };
 
-    ghost counts = { λ count registry. length registry ≡ 3 + count };
+    ghost counts = { λ count registry. length registry ≡ BUILT_IN_TYPES + count };
 
     #[tactic(auto, using(crate::proofs::TypeLemmas::no_refusal))]
     fn step(
@@ -245,7 +241,7 @@ impl Step for RegistryForm {
 fn registry_in(alloc: Global, value: &Value) -> Result<Registry, ScenarioFault>
     ensures { Answers (registry_of (view value.now)) result }
 {
-    let values = list_up_to(alloc, MOST_DECLARED, value)?;
+    let values = list_up_to(alloc, MOST_TYPES - BUILT_IN_TYPES, value)?;
     let built_in = Registry::new(alloc)?;
     each_over(alloc, &RegistryForm, built_in, values)
 }
