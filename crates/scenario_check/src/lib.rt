@@ -3,7 +3,7 @@
 
 mod access;
 mod built;
-mod check;
+mod checking;
 mod each;
 mod events;
 mod names;
@@ -12,4 +12,4 @@ mod spawns;
 mod uses;
 
 pub use built::is_built;
-pub use check::check;
+pub use checking::check;

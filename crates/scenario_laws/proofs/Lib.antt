@@ -1,4 +1,5 @@
 pub mod Inversions
+pub mod Registries
 pub mod Uses
 pub mod Kept
 pub mod Runs

@@ -37,7 +37,7 @@ impl Allowed {
     {
         match self {
             Allowed::AnyType => true,
-            Allowed::Spawned => ty != TypeId::SCENE_TAG,
+            Allowed::Spawned => ty.0 != TypeId::SCENE_TAG.0,
             Allowed::Enableable => registry.is_enableable(ty),
             Allowed::UnsharedOf(types) => types.has(ty) && !registry.is_shared(ty),
             Allowed::SharedOf(types) => types.has(ty) && registry.is_shared(ty),

@@ -1,7 +1,7 @@
 use Rattle.std.proofs.Common.{◌≡◌, ◌++◌, ◌-◌, map}
 use Rattle.std.specs.List.{range_with_len}
 use Rattle.scenario_record.specs.declared.plan.Step.TheVariants.{Run}
-use Rattle.scenario_check.proofs.check.push_runs.Given as goal
+use Rattle.scenario_check.proofs.checking.push_runs.Given as goal
 
 -- the systems that are left
 abbrev pub invariant-loop-k : goal.invariant-loop-k

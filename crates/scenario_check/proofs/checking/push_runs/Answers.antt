@@ -2,7 +2,7 @@ use Rattle.std.proofs.Common.{ℕ, ◌≡◌, ◌+◌, ◌-◌, ◌∙◌, List,
 use Rattle.std.specs.List.{range_with_len}
 use Rattle.scenario_record.specs.declared.plan.Step.{Step}
 use Rattle.scenario_record.specs.declared.plan.Step.TheVariants.{Run}
-use Rattle.scenario_check.proofs.check.push_runs.Goals as goal
+use Rattle.scenario_check.proofs.checking.push_runs.Goals as goal
 
 pub loop-k-preserved : goal.loop-k-preserved
 loop-k-preserved c =
