@@ -53,6 +53,9 @@ module _ {A : Type 0} where
   required_ok key read None x is = absurd cc
   required_ok key read (Some d) x is = (d, under_ok key (read d) x is)
 
+  pub required_found : (key : List ℕ) (read : Data → Reading A) (ms : Members) (x : A) → required key read ms ≡ Ok x → (d : Data) × (read d ≡ Ok x)
+  required_found key read ms x is = required_ok key read (get_member key ms) x is
+
   -- a key that isn't there has its default
   pub default_ok : (key : List ℕ) (default : A) (read : Data → Reading A) (found : Option Data) (x : A) → is_some found ≡ false → value_or key default read found ≡ Ok x → x ≡ default
   default_ok key default read None x absent is = sym cc

@@ -1,1 +1,2 @@
 pub mod LawfulTexts
+pub mod LawfulScenario

@@ -73,9 +73,7 @@ part_types parts = fold (λ set p. with_type set p.ty.0) [] parts
 -- enableable types of `with`
 abbrev pub disabled_types : List TypeInfo → List ℕ → Data → Reading (List ℕ)
 disabled_types registry types d =
-    list d >>= λ ds.
-    each_over (one_more_type registry (EnableableOf types)) (none_beside []) 0 ds >>= λ named.
-    Ok named.found
+    changed (λ n. n.found) (list d >>= each_over (one_more_type registry (EnableableOf types)) (none_beside []) 0)
 
 -- ---- the table
 
