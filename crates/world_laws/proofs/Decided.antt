@@ -4,16 +4,18 @@ use Rattle.std.specs.Prelude.{unwrap_or}
 use Rattle.std.specs.List.{list_any}
 use Rattle.ent_types.specs.declared.type_info.TypeInfo.{TypeInfo}
 use Rattle.ent_types.specs.declared.value.Value.{Value}
-use Rattle.ent_types.specs.Fitting.{fits_fields}
+use Rattle.ent_types.specs.Fitting.{fits_type}
 use Rattle.ent_types.specs.Registries.{type_at}
 use Rattle.ent_types.specs.TypeSets.{has_type, with_type, without_type}
-use Rattle.world_model.specs.Later.{MOST_ELEMENTS, TooLarge, Full, NoComponent, NotEnableable, TooLong, fields_at, is_shared_at, is_cleanup_at, is_buffer_at, is_enableable_at}
+use Rattle.ent_types.specs.declared.limits.TheConstants.{MOST_ELEMENTS}
+use Rattle.ent_types.specs.declared.skip.Skip.TheVariants.{TooLarge, Full, NoComponent, NotEnableable, TooLong}
+use Rattle.ent_types.specs.TypeLookups.{fields_at, is_shared_at, is_cleanup_at, is_buffer_at, is_enableable_at}
 use Rattle.world_model.specs.Members.{In, IsRising}
 use Rattle.world_model.specs.Part.{PartOf, part_type, same_part, with_typed, by_type}
 use Rattle.world_model.specs.Row.{Cell, cell_type, cell_of}
 use Rattle.world_model.specs.World.{Home}
 use Rattle.world_model.specs.Found.{Found, cell_at}
-use Rattle.world_model.specs.Fits.{Fits, FitsBy, IsKnown, IsFitting, IsElement}
+use Rattle.world_model.specs.Fits.{Fits, IsKnown, IsFitting, IsElement}
 use Rattle.world_model.specs.Operations.{Act, Destroy, Add, Remove, Set, SetShared, SetEnabled, Instantiate, Append, Clear, Outcome, Skips, Keeps, Writes, Moves, Ends, Makes, Sight, home_kept, cells_kept, home_with, home_with_shared, home_of, cells_of, with_values, switched, cell_values, element_count, is_copied, shared_set, values_set, kept, decide, decide_create}
 use Rattle.world_model.specs.Lawful.{IsLawfulHome, AreLawfulCells, IsLawfulRow, HasRoomForParts, ActSuits}
 use Rattle.world_laws.proofs.Members.{in_map, map_in, in_filter, filter_passes, filter_swap, map_filter}
@@ -56,9 +58,9 @@ module _ (registry : List TypeInfo) where
   changed_cells t change types cells fit h = record {
     types_are = map_types changed (λ c. refl) cells ∙ h.types_are;
     fit = λ c i. (let (d, j, e) = in_map changed c cells i in
-      subst (λ (x : Cell). Fits registry x.type_id x.values) (sym e) (fits d j (nat_eq d.type_id t) refl));
+        subst (λ (x : Cell). Fits registry x.type_id x.values) (sym e) (fits d j (nat_eq d.type_id t) refl));
     off = λ c i on. (let (d, j, e) = in_map changed c cells i in
-      ap (λ (x : Cell). is_enableable_at registry x.type_id) e ∙ h.off d j (sym (ap (λ (x : Cell). x.off) e) ∙ on));
+        ap (λ (x : Cell). is_enableable_at registry x.type_id) e ∙ h.off d j (sym (ap (λ (x : Cell). x.off) e) ∙ on));
   }
     where
       changed : Cell → Cell
@@ -72,9 +74,9 @@ module _ (registry : List TypeInfo) where
   switched_cells t on types cells may h = record {
     types_are = map_types turned (λ c. refl) cells ∙ h.types_are;
     fit = λ c i. (let (d, j, e) = in_map turned c cells i in
-      subst (λ (x : Cell). Fits registry x.type_id x.values) (sym e) (h.fit d j));
+        subst (λ (x : Cell). Fits registry x.type_id x.values) (sym e) (h.fit d j));
     off = λ c i is_off. (let (d, j, e) = in_map turned c cells i in
-      ap (λ (x : Cell). is_enableable_at registry x.type_id) e ∙ step d j (nat_eq d.type_id t) refl (sym (ap (λ (x : Cell). x.off) e) ∙ is_off));
+        ap (λ (x : Cell). is_enableable_at registry x.type_id) e ∙ step d j (nat_eq d.type_id t) refl (sym (ap (λ (x : Cell). x.off) e) ∙ is_off));
   }
     where
       turned : Cell → Cell
@@ -135,10 +137,6 @@ module _ (registry : List TypeInfo) where
 
   -- ---- elements
 
-  -- a buffer's elements where it is known that the type is a buffer
-  as_buffer : (t : ℕ) (values : List Value) → is_buffer_at registry t ≡ true → Fits registry t values ≡ FitsBy true (type_at registry t) values
-  as_buffer t values is = ap (λ b. FitsBy b (type_at registry t) values) is
-
   own_values : (types : List ℕ) (cells : List Cell) (c : Cell) → IsRising types → AreLawfulCells registry types cells → In c cells → cell_values c.type_id cells ≡ c.values
   own_values types cells c r h i =
       ap (λ o. unwrap_or (option_map (λ (x : Cell). x.values) o) [])
@@ -148,18 +146,14 @@ module _ (registry : List TypeInfo) where
       → nat_le MOST_ELEMENTS (element_count registry p.type_id cells) ≡ false
       → (c : Cell) → In c cells → c.type_id ≡ p.type_id → Fits registry c.type_id (c.values ++ p.values)
   appended_fits p types cells e r h open_ c i is =
-      let buffer : is_buffer_at registry c.type_id ≡ true = ap (is_buffer_at registry) is ∙ e.buffer in
-      let values : cell_values p.type_id cells ≡ c.values = ap (λ t. cell_values t cells) (sym is) ∙ own_values types cells c r h i in
-      let fields = ap (fields_at registry) is in
-      subst (λ (T : Type 0). T) (sym (as_buffer c.type_id (c.values ++ p.values) buffer))
-        (element_more (fields_at registry c.type_id) c.values p.values
-          (subst (λ (T : Type 0). T) (as_buffer c.type_id c.values buffer) (h.fit c i))
-          (subst (λ fs. fits_fields fs p.values ≡ true) (sym fields) e.fit)
-          (ap₂ (λ vs fs. nat_le MOST_ELEMENTS (length vs / length fs)) (sym values) fields ∙ open_))
+      let info = ap (type_at registry) is in
+      subst (λ (t : TypeInfo). fits_type t (c.values ++ p.values) ≡ true) (sym info)
+      (element_more (type_at registry p.type_id) c.values p.values e.buffer
+      (subst (λ (t : TypeInfo). fits_type t c.values ≡ true) info (h.fit c i)) e.fit
+      (ap (λ vs. nat_le MOST_ELEMENTS (length vs / length (fields_at registry p.type_id))) (sym (ap (λ t. cell_values t cells) (sym is) ∙ own_values types cells c r h i)) ∙ open_))
 
   cleared_fits : (t : ℕ) → is_buffer_at registry t ≡ true → (c : Cell) → c.type_id ≡ t → Fits registry c.type_id []
-  cleared_fits t buffer c is =
-      subst (λ (T : Type 0). T) (sym (as_buffer c.type_id [] (ap (is_buffer_at registry) is ∙ buffer))) (no_elements (fields_at registry c.type_id))
+  cleared_fits t buffer c is = subst (λ u. Fits registry u []) (sym is) (no_elements (type_at registry t) buffer)
 
 -- ---- what is decided
 
@@ -194,8 +188,11 @@ module _ (capacity : List ℕ → ℕ) (registry : List TypeInfo) (fits : HasRoo
     fine_shared : (p : PartOf Value) → IsFitting registry p → is_shared_at registry p.type_id ≡ true → has_type x.home.types p.type_id ≡ true → Fine (shared_set x p)
     fine_shared p fit sh there =
         fine_if x.home (list_any (same_part p) x.home.shared) Keeps (Moves (home_with_shared p x.home) x.row.cells x.row.dying) (λ e. tt)
-        (λ e. (shared_home registry p x.home fit sh l.home, shared_cells registry p.type_id x.home.types x.row.cells sh l.cells,
-               subst (λ ts. 1 ≤ capacity ts) (sym (with_has p.type_id x.home.types l.home.types there)) room))
+        (λ e. (
+          shared_home registry p x.home fit sh l.home,
+          shared_cells registry p.type_id x.home.types x.row.cells sh l.cells,
+          subst (λ ts. 1 ≤ capacity ts) (sym (with_has p.type_id x.home.types l.home.types there)) room,
+        ))
 
     fine_values : (t : ℕ) (change : List Value → List Value) → ((c : Cell) → In c x.row.cells → c.type_id ≡ t → Fits registry c.type_id (change c.values)) → Fine (values_set x t change)
     fine_values t change fit = changed_cells registry t change x.home.types x.row.cells fit l.cells
@@ -212,8 +209,8 @@ module _ (capacity : List ℕ → ℕ) (registry : List TypeInfo) (fits : HasRoo
         (λ there. fine_if x.home (is_shared_at registry p.type_id) _ _ (λ sh. fine_shared p h sh there) (λ sh. fine_values p.type_id (λ values. p.values) (put_fits p h)))
         (λ e. fine_if x.home (nat_eq (capacity (with_type x.home.types p.type_id)) 0) (Skips TooLarge) _ (λ f. tt)
         (λ small. fine_if x.home (is_shared_at registry p.type_id) _ _
-          (λ sh. (shared_home registry p x.home h sh l.home, shared_cells registry p.type_id x.home.types x.row.cells sh l.cells, not_zero (capacity (with_type x.home.types p.type_id)) small))
-          (λ sh. (own_home registry p.type_id x.home h.known sh l.home, own_cells registry p x.home x.row.cells h.fit sh l.home l.cells, not_zero (capacity (with_type x.home.types p.type_id)) small))))
+        (λ sh. (shared_home registry p x.home h sh l.home, shared_cells registry p.type_id x.home.types x.row.cells sh l.cells, not_zero (capacity (with_type x.home.types p.type_id)) small))
+        (λ sh. (own_home registry p.type_id x.home h.known sh l.home, own_cells registry p x.home x.row.cells h.fit sh l.home l.cells, not_zero (capacity (with_type x.home.types p.type_id)) small))))
     decide_fine (Remove t) h =
         fine_if x.home (not (has_type x.home.types t)) Keeps _ (λ e. tt)
         (λ e. fine_if x.home (x.row.dying && nat_eq (length (without_type x.home.types t)) 0) Ends _ (λ f. tt) (λ f. fine_kept (λ u. not (nat_eq u t))))
@@ -240,20 +237,22 @@ module _ (capacity : List ℕ → ℕ) (registry : List TypeInfo) (fits : HasRoo
   create_fine home parts fit rising =
       fine_if home (nat_eq (capacity (map part_type parts)) 0) (Skips TooLarge) _ (λ e. tt)
       (λ small. fine_if home full (Skips Full) _ (λ e. tt)
-      (λ e. ( record {
-                types = rising;
-                known = λ t i. (let (p, j, is) = in_map part_type t parts i in subst (IsKnown registry) (sym is) (fit p j).known);
-                shared = map_filter part_type (is_shared_at registry) parts;
-                fit = λ p i. (fit p (in_filter (λ (q : PartOf Value). is_shared_at registry q.type_id) p parts i)).fit;
-              }
-            , record {
-                types_are = cells_types owned ∙ map_filter part_type (own registry) parts;
-                fit = λ c i. (let (p, j, is) = in_map cell_of c owned i in
-                  subst (λ (d : Cell). Fits registry d.type_id d.values) (sym is) (fit p (in_filter (λ (q : PartOf Value). own registry q.type_id) p parts j)).fit);
-                off = λ c i on. none_off c on i;
-              }
-            , not_zero (capacity (map part_type parts)) small
-            , e )))
+      (λ e. (
+        record {
+          types = rising;
+          known = λ t i. (let (p, j, is) = in_map part_type t parts i in subst (IsKnown registry) (sym is) (fit p j).known);
+          shared = map_filter part_type (is_shared_at registry) parts;
+          fit = λ p i. (fit p (in_filter (λ (q : PartOf Value). is_shared_at registry q.type_id) p parts i)).fit;
+        },
+        record {
+          types_are = cells_types owned ∙ map_filter part_type (own registry) parts;
+          fit = λ c i. (let (p, j, is) = in_map cell_of c owned i in
+              subst (λ (d : Cell). Fits registry d.type_id d.values) (sym is) (fit p (in_filter (λ (q : PartOf Value). own registry q.type_id) p parts j)).fit);
+          off = λ c i on. none_off c on i;
+        },
+        not_zero (capacity (map part_type parts)) small,
+        e,
+      )))
     where
       owned : List (PartOf Value)
       owned = filter (λ (p : PartOf Value). own registry p.type_id) parts
