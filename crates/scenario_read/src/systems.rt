@@ -2,6 +2,7 @@
 ghost use Rattle.std.specs.Prelude.{◌≡◌};
 ghost use Rattle.toml.specs.View.{table_view};
 ghost use Rattle.scenario_record.specs.Readings.{Answers};
+ghost use Rattle.scenario_read.specs.ReadQueries.{bound_types};
 ghost use Rattle.scenario_read.specs.ReadSystems.{heading, acts, body, system_of, system};
 
 use crate::commands::CommandsForm;
@@ -85,7 +86,7 @@ struct Acts {
 }
 
 /// Reads what a system does with each row, which has the bound types.
-fn acts_of(
+fn acts_over(
     alloc: Global,
     registry: &Registry,
     bound: &TypeSet,
@@ -122,6 +123,19 @@ fn acts_of(
     })
 }
 
+/// Reads what a system does with each row that its clauses pick.
+fn acts_of(
+    alloc: Global,
+    registry: &Registry,
+    clauses: &Clauses,
+    table: &Table,
+) -> Result<Acts, ScenarioFault>
+    ensures { Answers (acts registry.now (bound_types clauses.now) (table_view table.now)) result }
+{
+    let bound = bound_types(clauses);
+    acts_over(alloc, registry, &bound, table)
+}
+
 /// Which rows a system visits, and what it does with them.
 #[derive(Drop)]
 struct Body {
@@ -138,7 +152,7 @@ fn body_of(alloc: Global, registry: &Registry, table: &Table) -> Result<Body, Sc
 {
     let clauses = clauses_of(alloc, registry, table)?;
     let filters = filters_of(alloc, registry, &clauses.all, table)?;
-    let acts = acts_of(alloc, registry, &bound_types(&clauses), table)?;
+    let acts = acts_of(alloc, registry, &clauses, table)?;
     Ok(Body {
         clauses,
         filters,
