@@ -2,6 +2,7 @@
 use Rattle.std.proofs.Common.{ℕ, ◌≡◌, ◌≤◌, List, [], ◌∷◌, Bool, true, false, ◌||◌, length, Option, None, Some, Ok, refl, subst}
 use Rattle.std.specs.Prelude.{codes}
 use Rattle.toml.specs.Data.{Members, get_member}
+use Rattle.ent_types.specs.Registries.{IsLawfulRegistry}
 use Rattle.scenario_record.specs.declared.record.Scenario.{Scenario}
 use Rattle.scenario_record.specs.Readings.{◌>>=◌}
 use Rattle.scenario_read.specs.declared.reader.Numbers.{Numbers}
@@ -13,20 +14,22 @@ use Rattle.scenario_read.specs.ReadEvents.{event}
 use Rattle.scenario_read.specs.ReadStages.{has_key, has_any, unbuilt_at_top, is_placed, is_unbuilt}
 use Rattle.scenario_read.specs.ReadScenario.{numbers, types, spawns, schedule, known_at_top, top_keys, top_table, document_of, read_document, scenario_of}
 use Rattle.scenario_check.specs.Read.{IsRead}
+use Rattle.scenario_laws.proofs.Registries.{types_ok}
 use Rattle.scenario_laws.proofs.Inversions.{then_ok, ok_same, unless_ok, whole_ok, required_ok, default_ok, number_ok, optional_up_to_ok}
 
 pub record IsKept (s : Scenario) : Type 0 where
   pub frames : s.frames ≤ 100000
   pub systems : length s.system ≤ 256
   pub first : s.unbuilt ≡ false → s.first_entity_version ≡ 1
+  pub registry : IsLawfulRegistry s.registry
 
 -- ---- the numbers
 
-record AreKept (ms : Members) (n : Numbers) : Type 0 where
+pub record AreKept (ms : Members) (n : Numbers) : Type 0 where
   pub frames : n.frames ≤ 100000
   pub first : has_key (codes "first_entity_version") ms ≡ false → n.first_entity_version ≡ 1
 
-numbers_ok : (ms : Members) (n : Numbers) → numbers ms ≡ Ok n → AreKept ms n
+pub numbers_ok : (ms : Members) (n : Numbers) → numbers ms ≡ Ok n → AreKept ms n
 numbers_ok ms n is =
     let frames = required (codes "frames") (number 0 100000) ms in
     let system = optional (codes "first_system_version") 1 (number 1 4294967295) ms in
@@ -89,6 +92,7 @@ keys_ok ms s is =
       frames = kept.frames;
       systems = few_systems registry.0 ms t.0 t.1;
       first = λ built. kept.first (no_entity_version ms built);
+      registry = types_ok ms registry.0 registry.1;
     })
 
 top_ok : (ms : Members) (s : Scenario) → top_table ms ≡ Ok s → IsKept s
@@ -105,3 +109,6 @@ what_is_kept bytes s is = document_ok (document_of bytes) s is
 
 pub can_be_checked : (bytes : List ℕ) (s : Scenario) → scenario_of bytes ≡ Ok s → IsRead s
 can_be_checked bytes s is = record { systems = (what_is_kept bytes s is).systems }
+
+pub has_lawful_registry : (bytes : List ℕ) (s : Scenario) → scenario_of bytes ≡ Ok s → IsLawfulRegistry s.registry
+has_lawful_registry bytes s is = (what_is_kept bytes s is).registry

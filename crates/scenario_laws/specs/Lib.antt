@@ -1,2 +1,0 @@
-pub mod LawfulTexts
-pub mod LawfulScenario

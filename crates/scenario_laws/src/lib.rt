@@ -4,6 +4,7 @@
 #![tactic(auto)]
 
 ghost use Rattle.std.specs.Prelude.{◌≡◌, ℕ, List, true, Ok};
+ghost use Rattle.ent_types.specs.Registries.{IsLawfulRegistry};
 ghost use Rattle.scenario_record.specs.declared.plan.Plan.{Plan};
 ghost use Rattle.scenario_record.specs.declared.record.Scenario.{Scenario};
 ghost use Rattle.scenario_record.specs.Runnable.{IsRunnable};
@@ -16,6 +17,12 @@ ghost use Rattle.scenario_check.specs.Built.{is_built};
 #[tactic(auto, using(crate::proofs::Kept::can_be_checked))]
 pub fn what_is_read_can_be_checked()
     ensures { (bytes : List ℕ) (s : Scenario) → scenario_of bytes ≡ Ok s → IsRead s }
+{}
+
+/// The registry of each scenario that was read is lawful.
+#[tactic(auto, using(crate::proofs::Kept::has_lawful_registry))]
+pub fn what_is_read_has_a_lawful_registry()
+    ensures { (bytes : List ℕ) (s : Scenario) → scenario_of bytes ≡ Ok s → IsLawfulRegistry s.registry }
 {}
 
 /// Each scenario that was read, passes its checks and is of a form that is run, can be run.
