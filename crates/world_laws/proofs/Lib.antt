@@ -8,3 +8,8 @@ pub mod Sound
 pub mod Types
 pub mod Elements
 pub mod Decided
+pub mod Blocks
+pub mod Kept
+pub mod Versions
+pub mod Meanings
+pub mod Examples
