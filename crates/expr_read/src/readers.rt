@@ -60,6 +60,3 @@ pub fn read_command(alloc: Global, text: &str, scope: &Scope) -> Result<CommandT
     scope.command_law();
     read_command_by(alloc, text, scope)
 }
-
-#[cfg(test)]
-mod tests;

@@ -237,6 +237,3 @@ impl Names for Scope<'_> {
         self.is_known(ty) && is_ref_kind(kind_of_field(self.registry.info(ty), usize::from(field)))
     }
 }
-
-#[cfg(test)]
-mod tests;
