@@ -12,7 +12,7 @@ kind_from (f ∷ fields) zero = refl
 kind_from (f ∷ fields) (suc at) = kind_from fields at
 
 pub returns-in-None-clause-value : goal.returns-in-None-clause-value
-returns-in-None-clause-value c = ap (option_map is_ref) c.in-None.ensures.value ∙ kind_from c.args.info.now.fields c.args.at
+returns-in-None-clause-value c = ap (option_map is_ref) c.in-None.ensures.value ∙ kind_from c.args.fields.now c.args.at
 
 pub returns-in-Some-clause-value : goal.returns-in-Some-clause-value
-returns-in-Some-clause-value c = ap Some c.is_ref_kind.ensures ∙ ap (option_map is_ref) c.in-Some.ensures.value ∙ kind_from c.args.info.now.fields c.args.at
+returns-in-Some-clause-value c = ap Some c.is_ref.ensures ∙ ap (option_map is_ref) c.in-Some.ensures.value ∙ kind_from c.args.fields.now c.args.at
