@@ -7,7 +7,8 @@ use Rattle.ent_types.specs.declared.kinds.FieldKind.{FieldKind}
 use Rattle.ent_types.specs.declared.type_info.TypeInfo.{TypeInfo}
 use Rattle.ent_types.specs.Names.{is_name}
 use Rattle.ent_types.specs.Registries.{type_id_named, type_at}
-use Rattle.ent_types.specs.Types.{same_name, is_ref, is_ref_kind, is_shared, is_buffer, has_column, field_named, kind_of_field}
+pub use Rattle.ent_types.specs.Types.{is_shared}
+use Rattle.ent_types.specs.Types.{same_name, is_ref, is_ref_kind, is_buffer, has_column, field_named, kind_of_field}
 use Rattle.ent_types.specs.declared.entity.TheConstants.TypeId.{SCENE_TAG}
 use Rattle.ent_types.specs.TypeSets.{has_type}
 use Rattle.expr_read.specs.declared.scope.TextPlace.{TextPlace}
