@@ -11,7 +11,7 @@ use crate::{Lexeme, Sign, Token};
 use ent_types::Memory;
 use std::alloc::Global;
 
-/// What a number that is too large stands as.
+/// The value of a number that is too large.
 const TOO_LARGE: u64 = 1 << 63;
 
 /// A token of any number of bytes goes on with bytes of one kind.
@@ -32,14 +32,14 @@ impl Kind {
     }
 }
 
-/// Says whether a byte may begin a name.
+/// `true` if a byte may begin a name.
 fn is_start(byte: u8) -> bool
     ensures { result ≡ is_name_start byte }
 {
     byte.is_ascii_alphabetic() || byte == b'_'
 }
 
-/// How many bytes at the front are of one kind.
+/// Returns how many bytes at the front are of one kind.
 fn run_len(bytes: &[u8], kind: Kind) -> usize
     ensures within { result ≤ length bytes.now }
     ensures same { (k : ℕ) → k < result → belongs kind (slice_index bytes.now k) ≡ true }
@@ -52,7 +52,7 @@ fn run_len(bytes: &[u8], kind: Kind) -> usize
     n
 }
 
-/// The number with one digit more.
+/// Returns the number with one digit more.
 fn with_digit(value: u64, digit: u8) -> u64
     requires { digit < 10 }
     ensures { result ≡ min (10 * value + digit) (2 ^ 63) }
@@ -63,7 +63,7 @@ fn with_digit(value: u64, digit: u8) -> u64
     (10 * value + u64::from(digit)).min(TOO_LARGE)
 }
 
-/// The number that the digits spell, or `TOO_LARGE`.
+/// Returns the number of the digits, or `TOO_LARGE`.
 fn number_value(digits: &[u8]) -> u64
     requires { All (λ b. is_ascii_digit b ≡ true) digits.now }
     ensures { result ≡ number_value digits.now }
@@ -75,7 +75,7 @@ fn number_value(digits: &[u8]) -> u64
     value
 }
 
-/// The sign that the first two bytes spell.
+/// Returns the sign of the first two bytes.
 fn pair_at(bytes: &[u8]) -> Option<Sign>
     ensures { MatchOption result (NoPair bytes.now) (λ s. IsLongestSign s 2 bytes.now) }
 {
@@ -85,7 +85,7 @@ fn pair_at(bytes: &[u8]) -> Option<Sign>
     pair(bytes[0], bytes[1])
 }
 
-/// The sign at the front, and how many bytes it takes.
+/// Returns the sign at the front, and how many bytes it takes.
 fn sign_at(bytes: &[u8]) -> Option<(Sign, usize)>
     requires { 0 < length bytes.now }
     ensures { MatchOption result (BeginsNoSign bytes.now) (λ found. IsLongestSign found.0 found.1 bytes.now) }
@@ -99,7 +99,7 @@ fn sign_at(bytes: &[u8]) -> Option<(Sign, usize)>
     }
 }
 
-/// The token at the front, and how many bytes it takes.
+/// Returns the token at the front, and how many bytes it takes.
 fn token_at(bytes: &[u8]) -> (Token<'_>, usize)
     requires some { 0 < length bytes.now }
     requires no_space { slice_index bytes.now 0 ≢ 32 }
@@ -120,12 +120,13 @@ fn token_at(bytes: &[u8]) -> (Token<'_>, usize)
     }
 }
 
-/// The tokens of a text, in order. After a place where no token begins nothing more is read.
+/// Returns the tokens of a text, in order. After a place where no token begins nothing more is read. It takes memory once:
+/// a text has at most as many tokens as bytes.
 pub fn tokens(alloc: Global, text: &[u8]) -> Result<Vec<Lexeme<'_>>, Memory>
     requires { length text.now < 2 ^ 32 }
     ensures { IfOk result (λ v. AreTokens 0 text.now (map seen v.items)) }
 {
-    let mut out = Vec::new(alloc);
+    let mut out = Vec::with_capacity(alloc, text.len())?;
     let mut at = 0;
     while at < text.len() {
         let rest = &text[at..];
@@ -143,12 +144,12 @@ pub fn tokens(alloc: Global, text: &[u8]) -> Result<Vec<Lexeme<'_>>, Memory>
     Ok(out)
 }
 
-/// The function of a text's bytes gives its tokens.
+/// Shows that each text has tokens: the law that callers cite.
 pub fn text_has_tokens()
     ensures { (text : List ℕ) → AreTokens 0 text (tokens_of text) }
 {}
 
-/// A text has one list of tokens: the law that callers cite.
+/// Shows that a text has one list of tokens: the law that callers cite.
 pub fn one_list()
     ensures { (text : List ℕ) (ps qs : List Placed) → AreTokens 0 text ps → AreTokens 0 text qs → ps ≡ qs }
 {}
