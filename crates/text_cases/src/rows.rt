@@ -1,5 +1,5 @@
 //! The rows on which the expressions of the table are evaluated: the own row, and the rows of two other entities.
-ghost use Rattle.std.specs.Prelude.{◌≡◌, not, ◌==◌, [], ◌∷◌, pos};
+ghost use Rattle.std.specs.Prelude.{◌≡◌, ℕ, Bool, true, false, not, List, [], ◌∷◌, if◌then◌else◌, pos, ◌==◌, nat_lt};
 ghost use Rattle.ent_types.specs.declared.value.Value.TheVariants.{Int, Ref};
 ghost use Rattle.text_cases.specs.Reads.{has_own, can_look};
 
