@@ -77,7 +77,7 @@ fn read_and_check(alloc: Global, text: &str) -> Result<(), ScenarioFault> {
 /// Prints a fault with its place. A fault of the whole file has none.
 fn print_fault<R: Print>(rt: &R, bad: &BadScenario) -> Result<()> {
     let cause = bad.cause.name();
-    if bad.cause == Cause::NotToml {
+    if bad.cause == Cause::NotToml || bad.cause == Cause::NotBuilt {
         println!(rt; "{cause}")?;
         return Ok(());
     }
