@@ -149,6 +149,3 @@ fn fault_line(alloc: Global, fault: &BadScenario) -> Result<Vec<u8>, Memory>
     line.push(b'\n')?;
     Ok(line)
 }
-
-#[cfg(test)]
-mod tests;

@@ -1,19 +1,6 @@
-//! The program `entsim`: it reads the words after its name and the files of the current folder, and writes one text.
+//! The program `entsim`: it does the command that its arguments name, over the files of the current folder, and prints
+//! what the command writes.
 #![tactic(auto)]
-
-mod calls;
-mod check_line;
-#[cfg(test)]
-mod form_tests;
-mod refusal;
-mod run;
-#[cfg(test)]
-mod run_tests;
-mod task;
-#[cfg(test)]
-mod tests;
-mod top;
-mod words;
 
 use ent_io::{FolderStore, NoGate, SinkEnd, Status, StdSink};
 use std::env::{self, Env};
@@ -58,7 +45,7 @@ fn main(rt: HostRuntime) -> io::Result<ExitCode> {
     let Ok(mut out) = StdSink::new(rt.alloc(), io::writer(&rt)) else {
         return Ok(ExitCode::from(number(Status::Memory)));
     };
-    let status = top::entsim(&rt, rt.alloc(), &words, &mut store, &mut out, &NoGate);
+    let status = entsim::entsim(&rt, rt.alloc(), &words, &mut store, &mut out, &NoGate);
     let status = settled(status, out.finish());
     Ok(ExitCode::from(number(status)))
 }
