@@ -4,10 +4,6 @@
 mod evaluation;
 mod operators;
 mod readers;
-#[cfg(test)]
-mod test_rows;
-#[cfg(test)]
-mod tests;
 
 pub use evaluation::{eval, eval_ref, number};
 pub use operators::{binary, is_true, unary};

@@ -13,8 +13,6 @@ mod pending;
 mod read;
 mod settle;
 mod stack;
-#[cfg(test)]
-mod tests;
 mod texts;
 mod tops;
 mod verbs;

@@ -3,16 +3,18 @@ use Rattle.std.specs.Prelude.{ℕ, List, [], ◌∷◌, Bool, true, false, not, 
 use Rattle.std.specs.List.{list_any}
 use Rattle.ent_types.specs.declared.entity.TypeId.{TypeId}
 use Rattle.ent_types.specs.declared.kinds.Kind.{Kind}
-use Rattle.ent_types.specs.declared.kinds.Kind.TheVariants as kinds
 use Rattle.ent_types.specs.declared.kinds.FieldKind.{FieldKind}
 use Rattle.ent_types.specs.declared.type_info.TypeInfo.{TypeInfo}
 use Rattle.ent_types.specs.Names.{is_name}
 use Rattle.ent_types.specs.Registries.{type_id_named, type_at}
-use Rattle.ent_types.specs.Types.{same_name, is_ref, is_ref_kind, has_column, field_named, kind_of_field}
+pub use Rattle.ent_types.specs.Types.{is_shared}
+use Rattle.ent_types.specs.Types.{same_name, is_ref, is_ref_kind, is_buffer, has_column, field_named, kind_of_field}
+use Rattle.ent_types.specs.declared.entity.TheConstants.TypeId.{SCENE_TAG}
 use Rattle.ent_types.specs.TypeSets.{has_type}
 use Rattle.expr_read.specs.declared.scope.TextPlace.{TextPlace}
 use Rattle.expr_read.specs.declared.scope.TextPlace.TheVariants.{Spawn, Event, System}
 use Rattle.expr_read.specs.declared.scope.Made.{Made}
+use Rattle.expr_read.specs.declared.scope.Scope.{Scope as TextScope}
 use Rattle.expr_trees.specs.declared.tree.BinaryOp.TheVariants.{Min, Max}
 use Rattle.expr_trees.specs.declared.tree.RefExpr.{RefExpr}
 use Rattle.expr_trees.specs.declared.tree.RefExpr.TheVariants as refs
@@ -104,9 +106,9 @@ is_own place bound ty = is_system place && has_type bound ty.0
 
 -- whether fields of a type of this kind may be named so
 abbrev pub may_name : TextPlace → List ℕ → FieldUse → TypeId → Kind → Bool
-may_name place bound Number ty kind = is_own place bound ty
-may_name place bound Entity ty kind = is_own place bound ty
-may_name place bound Looked ty kind = true
+may_name place bound Number ty kind = is_own place bound ty && not (is_buffer kind)
+may_name place bound Entity ty kind = is_own place bound ty && not (is_buffer kind)
+may_name place bound Looked ty kind = not (is_buffer kind)
 may_name place bound Assigned ty kind = is_own place bound ty && has_column kind
 
 -- whether a field that holds this may be named so
@@ -138,15 +140,9 @@ refs_of types ty = map is_ref (type_at types ty.0).fields
 abbrev pub is_ref_at : List TypeInfo → TypeId → ℕ → Bool
 is_ref_at types ty i = is_ref_kind (kind_of_field (type_at types ty.0) i)
 
-abbrev pub is_shared : Kind → Bool
-is_shared kinds.Plain = false
-is_shared kinds.Tag = false
-is_shared kinds.Shared = true
-is_shared kinds.Cleanup = false
-
 -- the built-in type that only a load of a scene gives
 abbrev pub is_scene_tag : TypeId → Bool
-is_scene_tag ty = ty.0 == 2
+is_scene_tag ty = ty.0 == SCENE_TAG.0
 
 -- whether a type that is known may be named so
 abbrev pub may_stand : TextPlace → List ℕ → TypeUse → TypeId → TypeInfo → Bool
@@ -155,7 +151,7 @@ may_stand place bound Own ty info = not (is_shared info.kind)
 may_stand place bound Switched ty info = is_own place bound ty && info.enableable
 may_stand place bound Removed ty info = not (is_scene_tag ty)
 may_stand place bound Enabled ty info = info.enableable
-may_stand place bound Added ty info = not (is_scene_tag ty)
+may_stand place bound Added ty info = not (is_scene_tag ty) && not (is_buffer info.kind)
 may_stand place bound Set ty info = has_column info.kind
 may_stand place bound Shared ty info = is_shared info.kind && not (is_scene_tag ty)
 
@@ -192,3 +188,7 @@ scope_of types place bound made =
       is_ref = is_ref_at types;
       is_new = is_new_name made;
     }
+
+-- the scope of a text
+abbrev pub scope_at : TextScope → Scope
+scope_at s = scope_of s.registry.now s.place s.bound.now s.made.now

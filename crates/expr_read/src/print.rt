@@ -4,8 +4,6 @@ ghost use Rattle.expr_read.specs.Printing.{IsPrintable, Prints};
 ghost use Rattle.expr_read.specs.PrintedTexts.{expr_text, is_printable, is_spelled};
 
 mod leaves;
-#[cfg(test)]
-mod tests;
 mod words;
 
 use crate::Expr;

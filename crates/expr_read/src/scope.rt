@@ -1,7 +1,5 @@
 //! What the names of a text stand for, by the place of the text.
-ghost use Rattle.std.specs.Prelude.{◌≡◌, ◌<◌, ◌≤◌, ◌&&◌, not, length, IfSome, if◌then◌else◌, Some, None};
-ghost use Rattle.std.specs.Option.{option_copied};
-ghost use Rattle.ent_types.specs.Registries.{type_at};
+ghost use Rattle.std.specs.Prelude.{◌≡◌, ◌<◌, ◌≤◌, ◌&&◌, not, length};
 ghost use Rattle.expr_read.specs.ScopeOf.{is_system, is_known, is_own, may_name, is_open, may_stand, scope_of};
 ghost use Rattle.expr_grammar.specs.CommandScopes.{ServesCommands};
 ghost use Rattle.expr_grammar.specs.Scopes.{IsLawful};
@@ -12,14 +10,11 @@ mod left;
 
 use crate::places::type_of;
 use crate::{Call, FieldUse, RefExpr, TypeUse, Variable};
-use by_kind::{has_suited, is_ref_kind, is_shared, kind_of_field, suited_field};
+use by_kind::{has_suited, suited_field};
 use by_word::{is, own_reference, plain_call, system_call, system_variable};
 use ent_types::{Kind, Name, Registry, TypeId, TypeInfo, TypeSet};
 use expr_machine::Names;
 use left::{is_left, is_taken, kind_at};
-
-/// The number of the built-in type `SceneTag`.
-const SCENE_TAG: u16 = 2;
 
 /// Where a text stands, which decides what its names may be.
 ///
@@ -47,11 +42,11 @@ pub struct Made {
     pub same_buffer: bool,
 }
 
-/// What the names of a text stand for: the types that there are, where the text stands, the types that each visited
-/// row has, and the names that earlier commands make. The names are distinct, and the bound types are known.
+/// What the names of a text mean: the types, the place of the text, the types that each visited row has, and the names
+/// that earlier commands make. The names are distinct, and the bound types are known.
 ///
-/// A type that isn't known may be named nowhere. Each answer takes at most one walk over the types, the fields of one
-/// type or the names made, and no memory. This project's own.
+/// A type that isn't known may be named nowhere. Each answer takes at most one look-up of a type's name, one walk over
+/// the fields of a type or the names made, and no memory. This project's own.
 #[derive(Clone, Copy)]
 pub struct Scope<'a> {
     /// The types.
@@ -76,7 +71,7 @@ impl TextPlace {
 }
 
 impl Scope<'_> {
-    /// Says whether the registry has the type.
+    /// `true` if the registry has the type.
     fn is_known(&self, ty: TypeId) -> bool
         ensures value { result ≡ is_known self.now.registry.now ty }
         ensures most { length self.now.registry.now ≤ 256 }
@@ -84,7 +79,7 @@ impl Scope<'_> {
         usize::from(ty.0) < self.registry.len()
     }
 
-    /// Says whether each row that the system visits has the type.
+    /// `true` if each row that the system visits has the type.
     fn is_own(&self, ty: TypeId) -> bool
         requires { ty.0 < 256 }
         ensures { result ≡ is_own self.now.place self.now.bound.now ty }
@@ -92,52 +87,45 @@ impl Scope<'_> {
         self.place.is_system() && self.bound.has(ty)
     }
 
-    /// Says whether fields of a type of this kind may be named so.
+    /// `true` if fields of a type of this kind fit the use.
     fn may_name(&self, role: FieldUse, ty: TypeId, kind: Kind) -> bool
         requires { ty.0 < 256 }
         ensures { result ≡ may_name self.now.place self.now.bound.now role ty kind }
     {
         match role {
-            FieldUse::Number | FieldUse::Entity => self.is_own(ty),
-            FieldUse::Looked => true,
+            FieldUse::Number | FieldUse::Entity => self.is_own(ty) && !kind.is_buffer(),
+            FieldUse::Looked => !kind.is_buffer(),
             FieldUse::Assigned => self.is_own(ty) && kind.has_column(),
         }
     }
 
-    /// The type, where its fields may be named so.
-    fn open_type(&self, role: FieldUse, ty: TypeId) -> Option<&TypeInfo>
-        ensures value { option_copied result ≡ (if is_open self.now.registry.now self.now.place self.now.bound.now role ty then Some (type_at self.now.registry.now ty.0) else None) }
-        ensures width { IfSome result (λ info. length info.now.fields ≤ 64) }
+    /// `true` if the registry has the type and its fields fit the use.
+    fn is_open(&self, role: FieldUse, ty: TypeId) -> bool
+        ensures { result ≡ is_open self.now.registry.now self.now.place self.now.bound.now role ty }
     {
-        if !self.is_known(ty) {
-            return None;
-        }
-        let info = self.registry.info(ty);
-        if !self.may_name(role, ty, info.kind) {
-            return None;
-        }
-        Some(info)
+        self.is_known(ty) && self.may_name(role, ty, self.registry.kind(ty))
     }
 
-    /// Says whether a type that is known may be named so.
+    /// `true` if a type that is known fits the use.
     fn may_stand(&self, role: TypeUse, ty: TypeId, info: &TypeInfo) -> bool
         requires { ty.0 < 256 }
         ensures { result ≡ may_stand self.now.place self.now.bound.now role ty info.now }
     {
         match role {
             TypeUse::Asked => true,
-            TypeUse::Own => !is_shared(info.kind),
+            TypeUse::Own => !info.kind.is_shared(),
             TypeUse::Switched => self.is_own(ty) && info.enableable,
-            TypeUse::Removed | TypeUse::Added => ty.0 != SCENE_TAG,
+            TypeUse::Removed => ty.0 != TypeId::SCENE_TAG.0,
+            TypeUse::Added => ty.0 != TypeId::SCENE_TAG.0 && !info.kind.is_buffer(),
             TypeUse::Enabled => info.enableable,
             TypeUse::Set => info.kind.has_column(),
-            TypeUse::Shared => is_shared(info.kind) && ty.0 != SCENE_TAG,
+            TypeUse::Shared => info.kind.is_shared() && ty.0 != TypeId::SCENE_TAG.0,
         }
     }
 }
 
 impl Scope<'_> {
-    /// The theory of the language holds in this scope.
+    /// Shows that the theory of the language holds in this scope.
     pub(crate) fn law(&self)
         ensures { IsLawful (scope_of self.now.registry.now self.now.place self.now.bound.now self.now.made.now) }
     {
@@ -145,7 +133,7 @@ impl Scope<'_> {
         let _ = self.registry.types();
     }
 
-    /// The theory of commands holds in this scope, too.
+    /// Shows that the theory of commands holds in this scope, too.
     pub(crate) fn command_law(&self)
         ensures { ServesCommands (scope_of self.now.registry.now self.now.place self.now.bound.now self.now.made.now) }
     {
@@ -186,19 +174,18 @@ impl Names for Scope<'_> {
     }
 
     fn find(&self, name: &[u8]) -> Option<TypeId> {
-        let at = type_of(name, self.registry)?;
-        Some(TypeId(at as u16))
+        type_of(name, self.registry)
     }
 
     fn field(&self, role: FieldUse, ty: TypeId, name: &[u8]) -> Option<u8> {
-        suited_field(role, self.open_type(role, ty)?, name)
+        if !self.is_open(role, ty) {
+            return None;
+        }
+        suited_field(role, self.registry, ty, name)
     }
 
     fn has_field(&self, role: FieldUse, ty: TypeId) -> bool {
-        match self.open_type(role, ty) {
-            None => false,
-            Some(info) => has_suited(role, info.fields.as_slice()),
-        }
+        self.is_open(role, ty) && has_suited(role, self.registry.fields(ty))
     }
 
     fn allows(&self, role: TypeUse, ty: TypeId) -> bool {
@@ -217,8 +204,7 @@ impl Names for Scope<'_> {
     }
 
     fn type_left(&self, used: TypeSet, name: &[u8]) -> Option<TypeId> {
-        let at = type_of(name, self.registry)?;
-        let ty = TypeId(at as u16);
+        let ty = type_of(name, self.registry)?;
         if self.allows(TypeUse::Added, ty) && is_left(used, ty) {
             Some(ty)
         } else {
@@ -227,16 +213,10 @@ impl Names for Scope<'_> {
     }
 
     fn kind_at(&self, ty: TypeId, at: u8) -> Option<bool> {
-        if !self.is_known(ty) {
-            return None;
-        }
-        kind_at(self.registry.info(ty), usize::from(at))
+        kind_at(self.registry.fields(ty), usize::from(at))
     }
 
     fn is_ref(&self, ty: TypeId, field: u8) -> bool {
-        self.is_known(ty) && is_ref_kind(kind_of_field(self.registry.info(ty), usize::from(field)))
+        self.registry.field_kind(ty, usize::from(field)).is_ref()
     }
 }
-
-#[cfg(test)]
-mod tests;

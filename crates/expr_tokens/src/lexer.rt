@@ -11,7 +11,7 @@ use crate::{Lexeme, Sign, Token};
 use ent_types::Memory;
 use std::alloc::Global;
 
-/// What a number that is too large stands as.
+/// The value of a number that is too large.
 const TOO_LARGE: u64 = 1 << 63;
 
 /// A token of any number of bytes goes on with bytes of one kind.
@@ -32,14 +32,14 @@ impl Kind {
     }
 }
 
-/// Says whether a byte may begin a name.
+/// `true` if a byte may begin a name.
 fn is_start(byte: u8) -> bool
     ensures { result ≡ is_name_start byte }
 {
     byte.is_ascii_alphabetic() || byte == b'_'
 }
 
-/// How many bytes at the front are of one kind.
+/// Returns how many bytes at the front are of one kind.
 fn run_len(bytes: &[u8], kind: Kind) -> usize
     ensures within { result ≤ length bytes.now }
     ensures same { (k : ℕ) → k < result → belongs kind (slice_index bytes.now k) ≡ true }
@@ -52,7 +52,7 @@ fn run_len(bytes: &[u8], kind: Kind) -> usize
     n
 }
 
-/// The number with one digit more.
+/// Returns the number with one digit more.
 fn with_digit(value: u64, digit: u8) -> u64
     requires { digit < 10 }
     ensures { result ≡ min (10 * value + digit) (2 ^ 63) }
@@ -63,7 +63,7 @@ fn with_digit(value: u64, digit: u8) -> u64
     (10 * value + u64::from(digit)).min(TOO_LARGE)
 }
 
-/// The number that the digits spell, or `TOO_LARGE`.
+/// Returns the number of the digits, or `TOO_LARGE`.
 fn number_value(digits: &[u8]) -> u64
     requires { All (λ b. is_ascii_digit b ≡ true) digits.now }
     ensures { result ≡ number_value digits.now }
@@ -75,7 +75,7 @@ fn number_value(digits: &[u8]) -> u64
     value
 }
 
-/// The sign that the first two bytes spell.
+/// Returns the sign of the first two bytes.
 fn pair_at(bytes: &[u8]) -> Option<Sign>
     ensures { MatchOption result (NoPair bytes.now) (λ s. IsLongestSign s 2 bytes.now) }
 {
@@ -85,7 +85,7 @@ fn pair_at(bytes: &[u8]) -> Option<Sign>
     pair(bytes[0], bytes[1])
 }
 
-/// The sign at the front, and how many bytes it takes.
+/// Returns the sign at the front, and how many bytes it takes.
 fn sign_at(bytes: &[u8]) -> Option<(Sign, usize)>
     requires { 0 < length bytes.now }
     ensures { MatchOption result (BeginsNoSign bytes.now) (λ found. IsLongestSign found.0 found.1 bytes.now) }
@@ -99,7 +99,7 @@ fn sign_at(bytes: &[u8]) -> Option<(Sign, usize)>
     }
 }
 
-/// The token at the front, and how many bytes it takes.
+/// Returns the token at the front, and how many bytes it takes.
 fn token_at(bytes: &[u8]) -> (Token<'_>, usize)
     requires some { 0 < length bytes.now }
     requires no_space { slice_index bytes.now 0 ≢ 32 }
@@ -120,12 +120,13 @@ fn token_at(bytes: &[u8]) -> (Token<'_>, usize)
     }
 }
 
-/// The tokens of a text, in order. After a place where no token begins nothing more is read.
+/// Returns the tokens of a text, in order. After a place where no token begins nothing more is read. It takes memory once:
+/// a text has at most as many tokens as bytes.
 pub fn tokens(alloc: Global, text: &[u8]) -> Result<Vec<Lexeme<'_>>, Memory>
     requires { length text.now < 2 ^ 32 }
     ensures { IfOk result (λ v. AreTokens 0 text.now (map seen v.items)) }
 {
-    let mut out = Vec::new(alloc);
+    let mut out = Vec::with_capacity(alloc, text.len())?;
     let mut at = 0;
     while at < text.len() {
         let rest = &text[at..];
@@ -143,151 +144,12 @@ pub fn tokens(alloc: Global, text: &[u8]) -> Result<Vec<Lexeme<'_>>, Memory>
     Ok(out)
 }
 
-/// The function of a text's bytes gives its tokens.
+/// Shows that each text has tokens: the law that callers cite.
 pub fn text_has_tokens()
     ensures { (text : List ℕ) → AreTokens 0 text (tokens_of text) }
 {}
 
-/// A text has one list of tokens: the law that callers cite.
+/// Shows that a text has one list of tokens: the law that callers cite.
 pub fn one_list()
     ensures { (text : List ℕ) (ps qs : List Placed) → AreTokens 0 text ps → AreTokens 0 text qs → ps ≡ qs }
 {}
-
-#[cfg(test)]
-mod tests {
-    use super::*;
-    use std::test::Fail;
-
-    /// A lexeme as a test writes it down.
-    #[derive(Clone, Copy, PartialEq, Eq, Debug)]
-    enum Is {
-        Word(u32, usize),
-        Number(u32, u64),
-        Sign(u32, Sign),
-        Bad(u32),
-    }
-
-    fn shown(lexeme: Lexeme<'_>) -> Is {
-        match lexeme.token {
-            Token::Word(bytes) => Is::Word(lexeme.at, bytes.len()),
-            Token::Number(n) => Is::Number(lexeme.at, n),
-            Token::Sign(s) => Is::Sign(lexeme.at, s),
-            Token::Bad => Is::Bad(lexeme.at),
-        }
-    }
-
-    fn reads(alloc: Global, text: &str, wanted: &[Is]) -> Result<bool, Memory> {
-        if text.len() > 1024 {
-            return Ok(false);
-        }
-        let found = tokens(alloc, text.as_bytes())?;
-        let mut same = found.len() == wanted.len();
-        for (lexeme, want) in found.iter().zip(wanted.iter()) {
-            if shown(*lexeme) != *want {
-                same = false;
-            }
-        }
-        Ok(same)
-    }
-
-    #[test]
-    fn longest_tokens(rt: HostRuntime) -> Result<(), Fail> {
-        assert!(rt; reads(rt.alloc(), "", &[])?);
-        assert!(rt; reads(rt.alloc(), "   ", &[])?);
-        assert!(rt; reads(rt.alloc(), "ab_1 7", &[Is::Word(0, 4), Is::Number(5, 7)])?);
-        assert!(rt; reads(rt.alloc(), "7ab", &[Is::Number(0, 7), Is::Word(1, 2)])?);
-        assert!(rt;
-            reads(
-                rt.alloc(),
-                "===",
-                &[Is::Sign(0, Sign::Equal), Is::Sign(2, Sign::Assign)]
-            )?
-        );
-        assert!(rt;
-            reads(
-                rt.alloc(),
-                "!= !",
-                &[Is::Sign(0, Sign::NotEqual), Is::Sign(3, Sign::Not)]
-            )?
-        );
-        assert!(rt;
-            reads(
-                rt.alloc(),
-                "<=>=<>",
-                &[
-                    Is::Sign(0, Sign::LessEqual),
-                    Is::Sign(2, Sign::GreaterEqual),
-                    Is::Sign(4, Sign::Less),
-                    Is::Sign(5, Sign::Greater)
-                ]
-            )?
-        );
-        assert!(rt;
-            reads(
-                rt.alloc(),
-                "&&||",
-                &[Is::Sign(0, Sign::And), Is::Sign(2, Sign::Or)]
-            )?
-        );
-        assert!(rt;
-            reads(
-                rt.alloc(),
-                "(),.:+-*/%",
-                &[
-                    Is::Sign(0, Sign::Open),
-                    Is::Sign(1, Sign::Close),
-                    Is::Sign(2, Sign::Comma),
-                    Is::Sign(3, Sign::Dot),
-                    Is::Sign(4, Sign::Colon),
-                    Is::Sign(5, Sign::Plus),
-                    Is::Sign(6, Sign::Minus),
-                    Is::Sign(7, Sign::Times),
-                    Is::Sign(8, Sign::Divide),
-                    Is::Sign(9, Sign::Rest)
-                ]
-            )?
-        );
-        Ok(())
-    }
-
-    #[test]
-    fn numbers_and_bad_bytes(rt: HostRuntime) -> Result<(), Fail> {
-        assert!(rt;
-            reads(
-                rt.alloc(),
-                "9223372036854775807",
-                &[Is::Number(0, 9_223_372_036_854_775_807)]
-            )?
-        );
-        assert!(rt;
-            reads(
-                rt.alloc(),
-                "9223372036854775808",
-                &[Is::Number(0, 9_223_372_036_854_775_808)]
-            )?
-        );
-        assert!(rt;
-            reads(
-                rt.alloc(),
-                "99999999999999999999999",
-                &[Is::Number(0, 9_223_372_036_854_775_808)]
-            )?
-        );
-        assert!(rt; reads(rt.alloc(), "0012", &[Is::Number(0, 12)])?);
-        assert!(rt; reads(rt.alloc(), "a & b", &[Is::Word(0, 1), Is::Bad(2)])?);
-        assert!(rt; reads(rt.alloc(), "a\tb", &[Is::Word(0, 1), Is::Bad(1)])?);
-        assert!(rt;
-            reads(
-                rt.alloc(),
-                "1.5$",
-                &[
-                    Is::Number(0, 1),
-                    Is::Sign(1, Sign::Dot),
-                    Is::Number(2, 5),
-                    Is::Bad(3)
-                ]
-            )?
-        );
-        Ok(())
-    }
-}

@@ -47,7 +47,7 @@ pub enum Sign {
     Or,
 }
 
-/// The sign that is spelled by two bytes.
+/// Returns the sign of two bytes.
 pub(crate) fn pair(first: u8, second: u8) -> Option<Sign>
     ensures { result ≡ pair_of first second }
 {
@@ -70,7 +70,7 @@ pub(crate) fn pair(first: u8, second: u8) -> Option<Sign>
     }
 }
 
-/// The sign that is spelled by one byte.
+/// Returns the sign of one byte.
 pub(crate) fn single(byte: u8) -> Option<Sign>
     ensures { result ≡ single_of byte }
 {

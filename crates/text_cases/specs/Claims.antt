@@ -6,8 +6,8 @@ use Rattle.expr_grammar.specs.Languages.{exprs, refs, assigns, switches, command
 use Rattle.expr_grammar.specs.Scopes.{Scope}
 use Rattle.text_cases.specs.declared.answer.Answer.{Answer}
 use Rattle.text_cases.specs.declared.answer.Answer.TheVariants.{Tree as IsTree, Fault}
-use Rattle.text_cases.specs.declared.case.Sort.{Sort}
-use Rattle.text_cases.specs.declared.case.Sort.TheVariants as sorts
+use Rattle.text_cases.specs.declared.reading.Sort.{Sort}
+use Rattle.text_cases.specs.declared.reading.Sort.TheVariants as sorts
 
 module _ {Tree Meaning : Type 0} (texts : Texts Tree Meaning) where
   -- the text has a meaning, or this is its first fault

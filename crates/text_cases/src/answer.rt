@@ -1,11 +1,10 @@
-//! What a reader answers to a text, as far as the table tells it.
+//! The reader's answer to a text, as the table writes it.
 ghost use Rattle.std.specs.Prelude.{◌≡◌, MatchResult};
 
-use crate::fault::LineFault;
-use expr_read::{ExprCause, ExprFault};
+use expr_read::ExprFault;
 use std::fmt;
 
-/// What a reader answers to a text: that the text is in the language, or its first fault.
+/// The answer of a reader to a text: the text is in the language, or has a first fault.
 #[derive(Clone, Copy, Debug, PartialEq, Eq)]
 pub enum Answer {
     /// The text is in the language.
@@ -20,31 +19,18 @@ impl fmt::Display for Answer {
             Answer::Tree => write!(f, "ok"),
             Answer::Fault(fault) => {
                 let ExprFault { cause, at } = *fault;
-                write!(f, "{cause:?} at {at}")
+                write!(f, "{cause:?}\t{at}")
             }
         }
     }
 }
 
-/// What a reader answered, without the tree.
+/// Returns the answer without the tree.
 pub fn told<T: Drop>(read: Result<T, ExprFault>) -> Answer
     ensures { MatchResult read (λ _. result ≡ Answer.Tree) (λ fault. result ≡ Answer.Fault fault) }
 {
     match read {
         Ok(_) => Answer::Tree,
         Err(fault) => Answer::Fault(fault),
-    }
-}
-
-/// The cause with this name. `Memory` is expected of no text.
-pub fn cause_named(name: &str) -> Result<ExprCause, LineFault> {
-    match name {
-        "TooLong" => Ok(ExprCause::TooLong),
-        "BadChar" => Ok(ExprCause::BadChar),
-        "NumberRange" => Ok(ExprCause::NumberRange),
-        "TooDeep" => Ok(ExprCause::TooDeep),
-        "UnknownName" => Ok(ExprCause::UnknownName),
-        "Unexpected" => Ok(ExprCause::Unexpected),
-        _ => Err(LineFault::UnknownWord),
     }
 }

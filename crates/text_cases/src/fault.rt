@@ -21,6 +21,9 @@ pub enum LineFault {
     /// A number that isn't one.
     #[error("no such number")]
     Number,
+    /// A text that isn't read, or whose tree isn't of the line's kind.
+    #[error("a text of another kind")]
+    Unread,
     /// A type that isn't well formed.
     #[error("a type that isn't well formed")]
     Type,

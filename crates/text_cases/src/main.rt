@@ -1,21 +1,22 @@
-//! The readers of the little language, tried from outside.
+//! The cases of the expression language: tokens, answers of the readers, trees, printed texts and values.
 //!
-//! The table `texts.tsv` of the current folder has texts, each with the answer that its reader must give, worked out by
-//! an independent program. Of a text that is in the language the table knows only that it is. The program reads each
-//! text where the table puts it, prints a line for each answer that isn't the expected one, and then the numbers.
+//! The table `texts.tsv` of the current folder has a line for each case, with the expected result, which an independent
+//! program computed. The program tries each case, prints a line for each result that isn't the expected one, and then
+//! the numbers of both.
 //!
-//! The status is 0 where all is as expected, 1 where something isn't, and 2 where the table can't be read.
+//! The status is 0 if each result is the expected one, 1 if some isn't, and 2 if the table can't be read.
 #![tactic(auto)]
 
 mod answer;
-mod case;
 mod fault;
-#[cfg(test)]
-mod printing_tests;
+mod lexing;
+mod printing;
 mod reading;
+mod rows;
 mod setting;
 mod table;
 mod types;
+mod values;
 
 use anyhow::{Context, Result};
 use std::process::ExitCode;
@@ -50,8 +51,8 @@ fn try_file<R: Files + Print + AllocGlobal>(rt: &R) -> Result<bool> {
 /// Prints what came out, and says whether all is as expected.
 fn report(rt: &impl Print, outcomes: &[Outcome]) -> io::Result<bool> {
     for outcome in outcomes {
-        if let Outcome::Otherwise { line, wanted, read } = outcome {
-            println!(rt; "line {line}: wanted {wanted}, read {read}")?;
+        if let Outcome::Otherwise { line, found } = outcome {
+            println!(rt; "line {line}: {found}")?;
         }
     }
     let met = outcomes
@@ -62,6 +63,6 @@ fn report(rt: &impl Print, outcomes: &[Outcome]) -> io::Result<bool> {
         .iter()
         .filter(|outcome| matches!(outcome, Outcome::Otherwise { .. }))
         .count();
-    println!(rt; "texts: {met} as expected, {missed} not")?;
+    println!(rt; "cases: {met} as expected, {missed} not")?;
     Ok(missed == 0)
 }

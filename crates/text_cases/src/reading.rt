@@ -3,11 +3,42 @@ ghost use Rattle.expr_read.specs.ScopeOf.{scope_of};
 ghost use Rattle.text_cases.specs.Claims.{Claims};
 
 use crate::answer::{Answer, told};
-use crate::case::Sort;
-use expr_read::{Scope, read_assign, read_command, read_expr, read_ref, read_switch};
+use crate::fault::LineFault;
+use ent_types::Memory;
+use expr_read::{ExprFault, Scope, read_assign, read_command, read_expr, read_ref, read_switch};
 use std::alloc::Global;
+use std::fmt::Debug;
 
-/// What the reader of its sort answers to a text.
+/// The grammar's symbol that a text is read as.
+#[derive(Clone, Copy, Debug, PartialEq, Eq)]
+pub enum Sort {
+    /// An expression.
+    Expr,
+    /// A reference.
+    Ref,
+    /// An assignment.
+    Assign,
+    /// A switch.
+    Switch,
+    /// A command.
+    Command,
+}
+
+impl Sort {
+    /// Returns the sort with this name.
+    pub fn named(name: &str) -> Result<Sort, LineFault> {
+        match name {
+            "expr" => Ok(Sort::Expr),
+            "ref" => Ok(Sort::Ref),
+            "assign" => Ok(Sort::Assign),
+            "switch" => Ok(Sort::Switch),
+            "command" => Ok(Sort::Command),
+            _ => Err(LineFault::UnknownWord),
+        }
+    }
+}
+
+/// Returns the answer of the sort's reader to a text.
 pub fn read(alloc: Global, sort: Sort, text: &str, scope: &Scope) -> Answer
     ensures { Claims (scope_of scope.now.registry.now scope.now.place scope.now.bound.now scope.now.made.now) sort text.now result }
 {
@@ -18,4 +49,32 @@ pub fn read(alloc: Global, sort: Sort, text: &str, scope: &Scope) -> Answer
         Sort::Switch => told(read_switch(alloc, text, scope)),
         Sort::Command => told(read_command(alloc, text, scope)),
     }
+}
+
+/// Returns the tree that the sort's reader builds of a text, as `Debug` writes it, or the fault.
+pub fn tree_text(
+    alloc: Global,
+    sort: Sort,
+    text: &str,
+    scope: &Scope,
+) -> Result<String, LineFault> {
+    match sort {
+        Sort::Expr => built(alloc, read_expr(alloc, text, scope)),
+        Sort::Ref => built(alloc, read_ref(alloc, text, scope)),
+        Sort::Assign => built(alloc, read_assign(alloc, text, scope)),
+        Sort::Switch => built(alloc, read_switch(alloc, text, scope)),
+        Sort::Command => built(alloc, read_command(alloc, text, scope)),
+    }
+}
+
+/// Writes a tree or a fault.
+fn built<T: Debug + Drop>(
+    alloc: Global,
+    read: Result<T, ExprFault>,
+) -> Result<String, LineFault> {
+    let written = match read {
+        Ok(tree) => format!(in alloc; "{tree:?}"),
+        Err(fault) => format!(in alloc; "{}", Answer::Fault(fault)),
+    };
+    Ok(written.map_err(Memory::from)?)
 }

@@ -48,6 +48,21 @@ impl Setting {
         }
     }
 
+    /// The scope of a text at another place.
+    pub fn scope_at(&self, place: TextPlace) -> Scope<'_>
+        ensures registry { result.registry.now ≡ self.now.registry }
+        ensures place { result.place ≡ place }
+        ensures bound { result.bound.now ≡ self.now.bound }
+        ensures made { result.made.now ≡ self.now.made.items }
+    {
+        Scope {
+            registry: &self.registry,
+            place,
+            bound: &self.bound,
+            made: self.made.as_slice(),
+        }
+    }
+
     /// Takes a line of the table that isn't a case: a line that begins a scope, or one that adds to it. Empty lines and
     /// remarks tell nothing.
     pub fn take(&mut self, alloc: Global, line: &str) -> Result<(), LineFault> {
@@ -111,7 +126,7 @@ impl Setting {
 }
 
 /// The place with this name.
-fn place_named(name: &str) -> Result<TextPlace, LineFault> {
+pub fn place_named(name: &str) -> Result<TextPlace, LineFault> {
     match name {
         "Spawn" => Ok(TextPlace::Spawn),
         "Event" => Ok(TextPlace::Event),

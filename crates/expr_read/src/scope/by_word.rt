@@ -7,14 +7,14 @@ ghost use Rattle.expr_read.specs.ScopeOf.{system_variable, plain_call, system_ca
 use super::Made;
 use crate::{BinaryOp, Call, RefExpr, Variable};
 
-/// Says whether a name is this word.
+/// `true` if a name is this word.
 pub(super) fn is(name: &[u8], word: &[u8]) -> bool
     ensures { result ≡ same_name name.now word.now }
 {
     name == word
 }
 
-/// The variable of this name in a system.
+/// Returns the variable of this name in a system.
 pub(super) fn system_variable(name: &[u8]) -> Option<Variable>
     ensures { result ≡ system_variable name.now }
 {
@@ -33,7 +33,7 @@ pub(super) fn system_variable(name: &[u8]) -> Option<Variable>
     }
 }
 
-/// The call of this name that asks nothing of the world.
+/// Returns the call of this name that reads nothing of the world.
 pub(super) fn plain_call(name: &[u8]) -> Option<Call>
     ensures { result ≡ plain_call name.now }
 {
@@ -48,7 +48,7 @@ pub(super) fn plain_call(name: &[u8]) -> Option<Call>
     }
 }
 
-/// The call of this name in a system.
+/// Returns the call of this name in a system.
 pub(super) fn system_call(name: &[u8]) -> Option<Call>
     ensures { result ≡ system_call name.now }
 {
@@ -67,7 +67,7 @@ pub(super) fn system_call(name: &[u8]) -> Option<Call>
     }
 }
 
-/// The name as an earlier command of the same buffer makes it.
+/// Returns the earlier command of the same buffer that makes the name.
 fn made_named<'a>(made: &'a [Made], name: &[u8]) -> Option<&'a Made>
     ensures { option_copied result ≡ find (λ m. m.same_buffer && same_name name.now m.name) made.now }
 {
@@ -75,7 +75,7 @@ fn made_named<'a>(made: &'a [Made], name: &[u8]) -> Option<&'a Made>
         .find(|m| m.same_buffer && is(name, m.name.as_bytes()))
 }
 
-/// What an earlier command of the same buffer makes under this name.
+/// Returns the entity that an earlier command of the same buffer makes under this name.
 fn made_reference(made: &[Made], name: &[u8]) -> Option<RefExpr>
     ensures { result ≡ made_reference made.now name.now }
 {
@@ -83,7 +83,7 @@ fn made_reference(made: &[Made], name: &[u8]) -> Option<RefExpr>
     Some(RefExpr::Made(found.number))
 }
 
-/// The reference that a name alone is in a system.
+/// Returns the reference that a name alone is in a system.
 pub(super) fn own_reference(made: &[Made], fits: bool, name: &[u8]) -> Option<RefExpr>
     ensures { result ≡ own_reference made.now fits name.now }
 {

@@ -1,7 +1,7 @@
 use Rattle.std.proofs.Common.{◌≡◌, sym, subst}
 use Rattle.expr_grammar.specs.Languages.{switches}
 use Rattle.expr_read.specs.ScopeOf.{scope_of}
-use Rattle.text_cases.specs.declared.case.Sort.{Sort}
+use Rattle.text_cases.specs.declared.reading.Sort.{Sort}
 use Rattle.text_cases.specs.Claims.{Claims}
 use Rattle.text_cases.proofs.Claimed.{claimed}
 use Rattle.text_cases.proofs.reading.read.Goals as goal

@@ -1,20 +1,47 @@
-//! An own row and two other rows, for the tests.
+//! The rows on which the expressions of the table are evaluated: the own row, and the rows of two other entities.
 ghost use Rattle.std.specs.Prelude.{◌≡◌, ℕ, Bool, true, false, not, List, [], ◌∷◌, if◌then◌else◌, pos, ◌==◌, nat_lt, find};
 ghost use Rattle.world_model.specs.Part.{same_entity};
 ghost use Rattle.ent_types.specs.declared.value.Value.TheVariants.{Int, Ref};
+ghost use Rattle.text_cases.specs.Reads.{has_own, can_look};
 
-use crate::{Lookup, RowReader};
 use ent_types::{Entity, TypeId, Value};
+use expr_eval::{Lookup, RowReader};
 
 /// The entity of the own row.
-pub(crate) const ME: Entity = Entity {
+const ME: Entity = Entity {
     index: 4,
     version: 2,
 };
 
-/// The own row: field 0 of each type but 4 is 5, field 1 is its own entity, and each type but 9 is on.
+/// An entity with the tag 3, two fields of type 5, which is disabled, and the shared type 8.
+const FULL: Entity = Entity {
+    index: 1,
+    version: 1,
+};
+
+/// An entity that is dying, with one field of type 6 left.
+const DYING: Entity = Entity {
+    index: 2,
+    version: 3,
+};
+
+/// `true` if the own row has this field.
+pub fn has_own(ty: TypeId, field: u8) -> bool
+    ensures { result ≡ has_own ty field }
+{
+    ty.0 != 4 && field < 2
+}
+
+/// `true` if the other rows can be read by this type.
+pub fn can_look(ty: TypeId) -> bool
+    ensures { result ≡ can_look ty }
+{
+    ty.0 != 4
+}
+
+/// The own row: field 0 of each type but 4 is 5, field 1 is its own entity, and each type but 9 is enabled.
 #[derive(Clone, Copy, Debug)]
-pub(crate) struct OwnRow;
+pub struct OwnRow;
 
 impl RowReader for OwnRow {
     ghost own_row = { λ _. record {
@@ -27,7 +54,7 @@ impl RowReader for OwnRow {
       n = 13;
     } };
 
-    ghost has_field = { λ _ ty i. if ty.0 == 4 then false else nat_lt i 2 };
+    ghost has_field = { λ _ ty i. has_own ty i };
 
     fn field(&self, _ty: TypeId, field: u8) -> Value {
         if field == 0 {
@@ -62,21 +89,9 @@ impl RowReader for OwnRow {
     }
 }
 
-/// An entity with two fields of type 5, which is switched off, the tag 3 and the shared type 8.
-pub(crate) const FULL: Entity = Entity {
-    index: 1,
-    version: 1,
-};
-
-/// An entity that is dying, with one field of type 6 left.
-pub(crate) const DYING: Entity = Entity {
-    index: 2,
-    version: 3,
-};
-
 /// The rows of `FULL` and `DYING`, of which all types but 4 can be read.
 #[derive(Clone, Copy, Debug)]
-pub(crate) struct OtherRows;
+pub struct OtherRows;
 
 impl Lookup for OtherRows {
     ghost found = { λ _ e. find (λ x. same_entity e x.row.entity) (
@@ -100,7 +115,7 @@ impl Lookup for OtherRows {
         })
         ∷ []) };
 
-    ghost can_read = { λ _ ty. not (ty.0 == 4) };
+    ghost can_read = { λ _ ty. can_look ty };
 
     fn value(&self, e: Entity, ty: TypeId, field: u8) -> Option<Value> {
         if FULL == e {
