@@ -7,7 +7,8 @@ use Rattle.ent_types.specs.declared.type_info.TypeInfo.{TypeInfo}
 use Rattle.scenario_record.specs.declared.record.Scenario.{Scenario}
 use Rattle.scenario_record.specs.declared.record.SpawnEntry.{SpawnEntry}
 use Rattle.scenario_record.specs.declared.record.SystemEntry.{SystemEntry}
-use Rattle.scenario_check.specs.Touched.{tested_in, in_value}
+use Rattle.scenario_record.specs.Uses.{uses_of_assigns}
+use Rattle.scenario_check.specs.Found.{tested_types}
 
 -- ---- types
 
@@ -29,9 +30,9 @@ is_built_in_tag ty = nat_lt ty 2
 abbrev pub names_built_in : List ℕ → Bool
 names_built_in types = list_any is_built_in_tag types
 
--- the types that the assigns of a system name by `has` and `on`
+-- the types that the assignments of a system name by `has` and `on`
 abbrev pub tested_by : SystemEntry → List ℕ
-tested_by y = flat_map (λ a. in_value tested_in (λ r. []) a.value) y.set
+tested_by y = flat_map tested_types (uses_of_assigns y)
 
 abbrev pub is_built_spawn : SpawnEntry → Bool
 is_built_spawn p = not (names_built_in (map (λ part. part.ty.0) p.parts))

@@ -3,7 +3,7 @@ ghost use Rattle.std.specs.Prelude.{◌≡◌, map};
 ghost use Rattle.std.specs.List.{list_all};
 ghost use Rattle.scenario_check.specs.Built.{is_built_kind, are_built_types, is_built_in_tag, names_built_in, tested_by, is_built_spawn, is_built_system, is_built};
 
-use crate::touched::{Wanted, in_assigns};
+use crate::uses::by_assigns;
 use ent_types::{Kind, Registry, TypeId, TypeInfo, TypeSet};
 use expr_trees::PartExpr;
 use scenario_record::{Scenario, SpawnEntry, SystemEntry};
@@ -31,7 +31,7 @@ fn are_built_kinds(types: &[TypeInfo]) -> bool
     types.iter().all(|info| is_built_kind(info.kind))
 }
 
-/// Says whether each declared type is of a kind that is run.
+/// `true` if each declared type is of a kind that is run.
 fn are_built_types(registry: &Registry) -> bool
     ensures { result ≡ are_built_types registry.now }
 {
@@ -46,7 +46,7 @@ fn is_built_in_tag(ty: TypeId) -> bool
     ty.0 < BUILT_IN_TAGS
 }
 
-/// Says whether a set has a built-in tag.
+/// `true` if a set has a built-in tag.
 #[tactic(auto, using(crate::proofs::BuiltLemmas::has_tags))]
 fn has_built_in(types: &TypeSet) -> bool
     ensures { result ≡ names_built_in types.now }
@@ -54,7 +54,7 @@ fn has_built_in(types: &TypeSet) -> bool
     types.has(TypeId(0)) || types.has(TypeId(1))
 }
 
-/// Says whether a built-in tag is among the types of some parts.
+/// `true` if a built-in tag is among the types of some parts.
 fn parts_name_built_in(parts: &[PartExpr]) -> bool
     ensures { result ≡ names_built_in (map (λ part. part.ty.0) parts.now) }
 {
@@ -66,13 +66,12 @@ fn parts_name_built_in(parts: &[PartExpr]) -> bool
     false
 }
 
-/// Says whether the assigns of a system name a built-in tag by `has` or `on`.
-#[tactic(auto, using(crate::proofs::BuiltLemmas::in_the_set))]
+/// `true` if the assignments of a system name a built-in tag by `has` or `on`.
+#[tactic(auto, using(crate::proofs::BuiltLemmas::tags))]
 fn tests_built_in(system: &SystemEntry) -> bool
     ensures { result ≡ names_built_in (tested_by system.now) }
 {
-    let tested = in_assigns(Wanted::Tested, system.set.as_slice(), TypeSet::empty());
-    has_built_in(&tested)
+    has_built_in(&by_assigns(system).tested)
 }
 
 fn is_built_spawn(spawn: &SpawnEntry) -> bool
@@ -99,12 +98,11 @@ fn are_built_systems(systems: &[SystemEntry]) -> bool
     systems.iter().all(|system| is_built_system(system))
 }
 
-/// Says whether a scenario is of a form that is run.
+/// `true` if a scenario is of a form that is run.
 ///
-/// It is, where no key is there of those that aren't run yet, no declared type is shared or a cleanup type, there is no
-/// event, and the built-in tags `Disabled` and `Prefab` are in no spawn, in no system's `all`, and in no `has` or `on` of
-/// a system's `set`. A scenario of another form is `NotBuilt` when it is run, after all other faults. As more forms are
-/// run this refuses fewer, and in the end it goes away.
+/// Such a scenario has no key that isn't run yet, no shared or cleanup type, and no event. The built-in tags `Disabled`
+/// and `Prefab` are in no spawn, in no system's `all`, and in no `has` or `on` of a system's `set`. A scenario of another
+/// form is `NotBuilt` when it is run, after all other faults. This call goes away once every form is run.
 #[tactic(auto, unfolding(crate::specs::Built::is_built))]
 pub fn is_built(scenario: &Scenario) -> bool
     ensures { result ≡ is_built scenario.now }

@@ -1,0 +1,4 @@
+pub mod Inversions
+pub mod Uses
+pub mod Kept
+pub mod Runs
