@@ -3,9 +3,9 @@
 
 mod calls;
 mod check_line;
+mod commands;
 mod refusal;
-mod run;
-mod task;
+mod stop;
 mod top;
 mod words;
 
