@@ -1,6 +1,10 @@
 //! The rows on which the expressions of the table are evaluated: the own row, and the rows of two other entities.
+<<<<<<< HEAD
 ghost use Rattle.std.specs.Prelude.{◌≡◌, ℕ, Bool, true, false, not, List, [], ◌∷◌, if◌then◌else◌, pos, ◌==◌, nat_lt, find};
 ghost use Rattle.world_model.specs.Part.{same_entity};
+=======
+ghost use Rattle.std.specs.Prelude.{◌≡◌, ℕ, Bool, true, false, not, List, [], ◌∷◌, if◌then◌else◌, pos, ◌==◌, nat_lt};
+>>>>>>> origin/h/language
 ghost use Rattle.ent_types.specs.declared.value.Value.TheVariants.{Int, Ref};
 ghost use Rattle.text_cases.specs.Reads.{has_own, can_look};
 
