@@ -68,14 +68,7 @@ pub fn tree_text(
 }
 
 /// Writes a tree or a fault.
-<<<<<<< HEAD
-fn built<T: Debug + Drop>(
-    alloc: Global,
-    read: Result<T, ExprFault>,
-) -> Result<String, LineFault> {
-=======
 fn built<T: Debug + Drop>(alloc: Global, read: Result<T, ExprFault>) -> Result<String, LineFault> {
->>>>>>> origin/h/language
     let written = match read {
         Ok(tree) => format!(in alloc; "{tree:?}"),
         Err(fault) => format!(in alloc; "{}", Answer::Fault(fault)),

@@ -1,10 +1,5 @@
 //! The rows on which the expressions of the table are evaluated: the own row, and the rows of two other entities.
-<<<<<<< HEAD
-ghost use Rattle.std.specs.Prelude.{◌≡◌, ℕ, Bool, true, false, not, List, [], ◌∷◌, if◌then◌else◌, pos, ◌==◌, nat_lt, find};
-ghost use Rattle.world_model.specs.Part.{same_entity};
-=======
 ghost use Rattle.std.specs.Prelude.{◌≡◌, ℕ, Bool, true, false, not, List, [], ◌∷◌, if◌then◌else◌, pos, ◌==◌, nat_lt};
->>>>>>> origin/h/language
 ghost use Rattle.ent_types.specs.declared.value.Value.TheVariants.{Int, Ref};
 ghost use Rattle.text_cases.specs.Reads.{has_own, can_look};
 
@@ -98,9 +93,8 @@ impl RowReader for OwnRow {
 pub struct OtherRows;
 
 impl Lookup for OtherRows {
-    ghost found = { λ _ e. find (λ x. same_entity e x.row.entity) (
+    ghost rows = { λ _.
         (record {
-          home = record { types = 3 ∷ 5 ∷ 8 ∷ []; shared = (record { type_id = 8; values = Int (pos 6) ∷ [] }) ∷ [] };
           row = record {
             entity = record { index = 1; version = 1 };
             cells = (record { type_id = 3; values = []; off = false })
@@ -108,16 +102,17 @@ impl Lookup for OtherRows {
                 ∷ [];
             dying = false;
           };
+          shared = (record { type_id = 8; values = Int (pos 6) ∷ [] }) ∷ [];
         })
         ∷ (record {
-          home = record { types = 6 ∷ []; shared = [] };
           row = record {
             entity = record { index = 2; version = 3 };
             cells = (record { type_id = 6; values = Int (pos 9) ∷ []; off = false }) ∷ [];
             dying = true;
           };
+          shared = [];
         })
-        ∷ []) };
+        ∷ [] };
 
     ghost can_read = { λ _ ty. can_look ty };
 
