@@ -1,80 +1,65 @@
--- From the end of a call below to the status of a command.
-use Rattle.std.proofs.Common.{ℕ, ◌≡◌, List, Option, None, Some, Result, Ok, Err, subst, sym}
-use Rattle.std.specs.Prelude.{IfSome}
+-- From the steps of a command to what it gives, whatever files are told.
+use Rattle.std.proofs.Common.{◌≡◌, ℕ, List, Bool, true, false, Option, None, Some, Result, Ok, Err, refl, subst, sym}
+use Rattle.std.specs.Prelude.{IfSome, IsErrAnd}
+use Rattle.ent_io.proofs.Appends.{prefix_none}
 use Rattle.ent_io.specs.Files.{Files}
+use Rattle.ent_io.specs.Text.{appended, AppendsPrefix}
 use Rattle.ent_io.specs.declared.end.End.{End}
-use Rattle.ent_io.specs.declared.end.End.TheVariants.{ReadFault, WriteFault, Memory}
-use Rattle.ent_io.specs.declared.end.Status.{Status}
-use Rattle.ent_io.specs.declared.end.Status.TheVariants.{Done, BadWords, Refused, KeyShared, ReadFault as FaultOfRead, WriteFault as FaultOfWrite, Memory as NoMemory}
-use Rattle.ent_io.specs.End.{Causes}
-use Rattle.ent_io.specs.Status.{StatusCauses}
-use Rattle.entsim.specs.Outcome.{Outcome, bad_words}
-use Rattle.entsim.specs.Headline.{Gives, Ends, EndsWhole, Obeys, OfBadWords, OfCommand, status_after}
+use Rattle.plain_text.specs.Lines.{world_text}
+use Rattle.plain_world.specs.Run.{world_after}
+use Rattle.scenario_check.specs.Built.{is_built}
+use Rattle.scenario_record.specs.declared.record.Scenario.{Scenario}
+use Rattle.entsim.specs.declared.stop.Refusal.{Refusal}
+use Rattle.entsim.specs.declared.stop.Refusal.TheVariants.{NotBuilt}
+use Rattle.entsim.specs.declared.stop.Stop.{Stop}
+use Rattle.entsim.specs.declared.stop.Stop.TheVariants.{Ended}
+use Rattle.entsim.specs.Outcome.{and_then, run_text}
+use Rattle.entsim.specs.Stops.{Gives, IsWritten, StopsAt, StopsWithin}
 
--- a call that ends well has written its text to the end
-pub whole_ends : (o : Outcome) (r : Result Status End) (old new : Option (List ℕ)) → EndsWhole r → Gives o r old new → Ends o (status_after r) old new
-whole_ends o (Ok Done) old new is gives = gives
-whole_ends o (Ok BadWords) old new is gives = gives
-whole_ends o (Ok Refused) old new is gives = gives
-whole_ends o (Ok KeyShared) old new is gives = gives
-whole_ends o (Ok FaultOfRead) old new is gives = absurd is
-whole_ends o (Ok FaultOfWrite) old new is gives = absurd is
-whole_ends o (Ok NoMemory) old new is gives = absurd is
-whole_ends o (Err ReadFault) old new is gives = gives
-whole_ends o (Err WriteFault) old new is gives = gives
-whole_ends o (Err Memory) old new is gives = gives
+-- where nothing was written, a prefix was
+nothing_written : (wanted : Result (List ℕ) Refusal) (old new : Option (List ℕ)) → new ≡ old → StopsWithin wanted old new
+nothing_written (Ok text) old new same = prefix_none text old new same
+nothing_written (Err refusal) old new same = same
 
-pub whole_causes : (r : Result Status End) (store store_now sink sink_now : ℕ) → EndsWhole r → Causes r store store_now sink sink_now
-    → StatusCauses (status_after r) store store_now sink sink_now
-whole_causes (Ok Done) store store_now sink sink_now is same = same
-whole_causes (Ok BadWords) store store_now sink sink_now is same = same
-whole_causes (Ok Refused) store store_now sink sink_now is same = same
-whole_causes (Ok KeyShared) store store_now sink sink_now is same = same
-whole_causes (Ok FaultOfRead) store store_now sink sink_now is same = absurd is
-whole_causes (Ok FaultOfWrite) store store_now sink sink_now is same = absurd is
-whole_causes (Ok NoMemory) store store_now sink sink_now is same = absurd is
-whole_causes (Err ReadFault) store store_now sink sink_now is same = same
-whole_causes (Err WriteFault) store store_now sink sink_now is same = same
-whole_causes (Err Memory) store store_now sink sink_now is same = same
+-- a step that gave its value leaves the rest
+pub told_gives : {A T : Type 0} (told : Option Files) (wanted : Files → Result A Refusal) (further : A → Result (List ℕ) Refusal) (value : A) (r : Result T Stop) (old new : Option (List ℕ))
+    → IfSome told (λ files. wanted files ≡ Ok value) → Gives (further value) r old new → IfSome told (λ files. Gives (and_then further (wanted files)) r old new)
+told_gives None wanted further value r old new is gives = tt
+told_gives (Some files) wanted further value r old new is gives = subst (λ w. Gives (and_then further w) r old new) (sym is) gives
 
--- a command that ends well is done or refused
-pub obeyed_whole : (r : Result Status End) → Obeys r → EndsWhole r
-obeyed_whole (Ok Done) is = tt
-obeyed_whole (Ok BadWords) is = absurd is
-obeyed_whole (Ok Refused) is = tt
-obeyed_whole (Ok KeyShared) is = absurd is
-obeyed_whole (Ok FaultOfRead) is = absurd is
-obeyed_whole (Ok FaultOfWrite) is = absurd is
-obeyed_whole (Ok NoMemory) is = absurd is
-obeyed_whole (Err end) is = tt
+-- an end before anything is written
+pub told_ended : {T : Type 0} (told : Option Files) (wanted : Files → Result (List ℕ) Refusal) (r : Result T Stop) (end : End) (old new : Option (List ℕ))
+    → IsErrAnd r (λ stop. stop ≡ Ended end) → new ≡ old → IfSome told (λ files. Gives (wanted files) r old new)
+told_ended told wanted (Ok value) end old new is same = absurd is
+told_ended None wanted (Err stop) end old new is same = tt
+told_ended (Some files) wanted (Err stop) end old new is same = subst (λ s. StopsAt (wanted files) s old new) (sym is) (nothing_written (wanted files) old new same)
 
-pub obeyed_status : (r : Result Status End) → Obeys r → OfCommand (status_after r)
-obeyed_status (Ok Done) is = tt
-obeyed_status (Ok BadWords) is = absurd is
-obeyed_status (Ok Refused) is = tt
-obeyed_status (Ok KeyShared) is = absurd is
-obeyed_status (Ok FaultOfRead) is = tt
-obeyed_status (Ok FaultOfWrite) is = tt
-obeyed_status (Ok NoMemory) is = tt
-obeyed_status (Err ReadFault) is = tt
-obeyed_status (Err WriteFault) is = tt
-obeyed_status (Err Memory) is = tt
+-- an end after a prefix of the text
+pub ended_within : {T : Type 0} (wanted : Result (List ℕ) Refusal) (text : List ℕ) (r : Result T Stop) (end : End) (old new : Option (List ℕ))
+    → wanted ≡ Ok text → IsErrAnd r (λ stop. stop ≡ Ended end) → AppendsPrefix text old new → Gives wanted r old new
+ended_within wanted text (Ok value) end old new due is prefix = absurd is
+ended_within wanted text (Err stop) end old new due is prefix =
+    subst (λ s. StopsAt wanted s old new) (sym is) (subst (λ w. StopsWithin w old new) (sym due) prefix)
 
--- words that are no command end by their status, or before it
-pub worded_status : (r : Result Status End) (old new : Option (List ℕ)) → Gives bad_words r old new → OfBadWords (status_after r)
-worded_status (Ok status) old new gives = subst OfBadWords (sym gives.0) tt
-worded_status (Err ReadFault) old new gives = tt
-worded_status (Err WriteFault) old new gives = tt
-worded_status (Err Memory) old new gives = tt
+-- the text to its end
+pub told_written : {A : Type 0} (told : Option Files) (wanted : Files → Result A Refusal) (further : A → Result (List ℕ) Refusal) (value : A) (text : List ℕ) (old new : Option (List ℕ))
+    → IfSome told (λ files. wanted files ≡ Ok value) → further value ≡ Ok text → new ≡ appended old text → IfSome told (λ files. IsWritten (and_then further (wanted files)) old new)
+told_written None wanted further value text old new is due whole = tt
+told_written (Some files) wanted further value text old new is due whole =
+    subst (λ w. IsWritten (and_then further w) old new) (sym is) (subst (λ w. IsWritten w old new) (sym due) whole)
 
--- whatever files are told
-pub told_ends : (told : Option Files) (by_files : Files → Outcome) (r : Result Status End) (old new : Option (List ℕ)) → EndsWhole r
-    → IfSome told (λ files. Gives (by_files files) r old new) → IfSome told (λ files. Ends (by_files files) (status_after r) old new)
-told_ends None by_files r old new is gives = tt
-told_ends (Some files) by_files r old new is gives = whole_ends (by_files files) r old new is gives
+-- a refusal that the last step gives
+pub told_refused : {A : Type 0} (told : Option Files) (wanted : Files → Result A Refusal) (further : A → Result (List ℕ) Refusal) (value : A) (refusal : Refusal) (old new : Option (List ℕ))
+    → IfSome told (λ files. wanted files ≡ Ok value) → further value ≡ Err refusal → new ≡ old → IfSome told (λ files. (and_then further (wanted files) ≡ Err refusal) × (new ≡ old))
+told_refused None wanted further value refusal old new is due same = tt
+told_refused (Some files) wanted further value refusal old new is due same = (subst (λ w. and_then further w ≡ Err refusal) (sym is) due, same)
 
--- an outcome that doesn't look at the files
-pub told_same : (told : Option Files) (by_files : Files → Outcome) (o : Outcome) (status : Status) (old new : Option (List ℕ))
-    → ((files : Files) → by_files files ≡ o) → Ends o status old new → IfSome told (λ files. Ends (by_files files) status old new)
-told_same None by_files o status old new same ends = tt
-told_same (Some files) by_files o status old new same ends = subst (λ p. Ends p status old new) (sym (same files)) ends
+-- the text of a run, by its form
+
+pub unbuilt_text : (s : Scenario) (b : Bool) → b ≡ is_built s → b ≡ false → run_text s ≡ Err NotBuilt
+unfolding run_text
+unbuilt_text s b is off = rw (← is) (rw off refl)
+
+pub built_text : (s : Scenario) (b : Bool) → b ≡ is_built s → b ≡ true → run_text s ≡ Ok (world_text s.registry s.frames (world_after s))
+unfolding run_text
+built_text s b is on = rw (← is) (rw on refl)

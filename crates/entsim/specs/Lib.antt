@@ -2,4 +2,5 @@ pub mod CheckLine
 pub mod ErrorLines
 pub mod Headline
 pub mod Outcome
+pub mod Stops
 pub mod Words

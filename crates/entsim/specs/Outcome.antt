@@ -4,20 +4,17 @@ use Rattle.ent_io.specs.Files.{Files}
 use Rattle.ent_io.specs.Store.{whole_of}
 use Rattle.ent_io.specs.declared.end.Status.{Status}
 use Rattle.ent_io.specs.declared.end.Status.TheVariants.{Done, BadWords, Refused}
-use Rattle.ent_io.specs.declared.reading.Missing.{Missing}
-use Rattle.ent_io.specs.declared.reading.Missing.TheVariants.{Absent, TooLong}
-use Rattle.scenario_record.specs.declared.fault.BadScenario.{BadScenario}
+use Rattle.ent_types.specs.declared.limits.TheConstants.{LONGEST_SCENARIO}
 use Rattle.scenario_record.specs.declared.record.Scenario.{Scenario}
 use Rattle.scenario_read.specs.ReadScenario.{scenario_of}
-use Rattle.scenario_record.specs.declared.plan.Plan.{Plan}
 use Rattle.scenario_check.specs.Planned.{checked}
 use Rattle.scenario_check.specs.Built.{is_built}
 use Rattle.plain_world.specs.Run.{world_after}
 use Rattle.plain_text.specs.Lines.{world_text}
-use Rattle.entsim.specs.ErrorLines.{missing_line, fault_line, unbuilt_line, words_line}
+use Rattle.entsim.specs.ErrorLines.{refusal_line, words_line}
 use Rattle.entsim.specs.CheckLine.{ok_line}
-use Rattle.entsim.specs.declared.task.Task.{Task}
-use Rattle.entsim.specs.declared.task.Task.TheVariants.{Run, Check}
+use Rattle.entsim.specs.declared.stop.Refusal.{Refusal}
+use Rattle.entsim.specs.declared.stop.Refusal.TheVariants.{Missing, Faulty, NotBuilt}
 use Rattle.entsim.specs.Words.{Command, run, check, layout, plan, dump, make, bench, command_of}
 
 -- a text and a status
@@ -25,63 +22,63 @@ pub record Outcome : Type 0 where
   pub text : List ℕ
   pub status : Status
 
--- a refusal with its line
-abbrev pub refused : List ℕ → Outcome
-refused line = record { text = line; status = Refused }
+-- a refusal, or first the one and then the other with what it gave
+abbrev pub and_then : {A B : Type 0} → (A → Result B Refusal) → Result A Refusal → Result B Refusal
+and_then f (Ok x) = f x
+and_then f (Err refusal) = Err refusal
 
--- a text to its end
-abbrev pub done : List ℕ → Outcome
-done text = record { text = text; status = Done }
+-- what is refused for another cause
+abbrev pub refused_as : {A E : Type 0} → (E → Refusal) → Result A E → Result A Refusal
+refused_as refusal (Ok x) = Ok x
+refused_as refusal (Err e) = Err (refusal e)
 
--- the run of a scenario: the world after its frames
-unfoldable pub run_outcome : Scenario → Outcome
-run_outcome s = done (world_text s.registry s.frames (world_after s))
+-- the bytes of a scenario's file: at most 1 MiB
+abbrev pub bytes_in : Option (List ℕ) → Result (List ℕ) Refusal
+bytes_in file = refused_as Missing (whole_of LONGEST_SCENARIO file)
 
--- a command or a form that isn't built yet
-abbrev pub unbuilt : Outcome
-unbuilt = refused unbuilt_line
+-- the scenario that the bytes are
+abbrev pub read_from : List ℕ → Result Scenario Refusal
+read_from bytes = refused_as Faulty (scenario_of bytes)
 
--- of the scenarios that pass their checks, those of the forms that are built are run
-abbrev pub built_outcome : Scenario → Outcome
-built_outcome s = if is_built s then run_outcome s else unbuilt
+-- the scenario, if it passes its checks
+abbrev pub passing : Scenario → Result Scenario Refusal
+passing s = and_then (λ plan. Ok s) (refused_as Faulty (checked s))
 
--- what a command does with a scenario that passes its checks
-abbrev pub passed_outcome : Task → Scenario → Outcome
-passed_outcome Run s = built_outcome s
-passed_outcome Check s = done (ok_line s)
+-- the scenario of a file, which passes its checks
+abbrev pub scenario_in : Option (List ℕ) → Result Scenario Refusal
+scenario_in file = and_then passing (and_then read_from (bytes_in file))
 
-abbrev pub checked_outcome : Task → Scenario → Result Plan BadScenario → Outcome
-checked_outcome task s (Ok _) = passed_outcome task s
-checked_outcome task s (Err fault) = refused (fault_line fault)
+-- the text of a run: the world after the frames, for the forms that are built
+unfoldable pub run_text : Scenario → Result (List ℕ) Refusal
+run_text s = if is_built s then Ok (world_text s.registry s.frames (world_after s)) else Err NotBuilt
 
--- a scenario at fault is refused, by what is read or by its checks
-abbrev pub scenario_outcome : Task → Result Scenario BadScenario → Outcome
-scenario_outcome task (Ok s) = checked_outcome task s (checked s)
-scenario_outcome task (Err fault) = refused (fault_line fault)
-
--- what was read of the file: at most 1 MiB
-abbrev pub read_outcome : Task → Result (List ℕ) Missing → Outcome
-read_outcome task (Ok bytes) = scenario_outcome task (scenario_of bytes)
-read_outcome task (Err missing) = refused (missing_line missing)
-
-abbrev pub file_outcome : Task → Option (List ℕ) → Outcome
-file_outcome task file = read_outcome task (whole_of 1048576 file)
+-- the text of a check
+abbrev pub check_text : Scenario → Result (List ℕ) Refusal
+check_text s = Ok (ok_line s)
 
 -- one worker, as where none are named
 abbrev pub is_alone : Option ℕ → Bool
 is_alone None = true
 is_alone (Some n) = n == 1
 
--- The run of a file with one worker and without a trace, and the check of a file are built. What isn't is refused before
--- anything is read.
+-- The text of a command, or why it is refused. The run of a file with one worker and without a trace, and the check of a
+-- file are built. What isn't is refused before anything is read.
+abbrev pub command_text : Files → Command → Result (List ℕ) Refusal
+command_text files (run file workers trace) = if is_alone workers && not trace then and_then run_text (scenario_in (files file)) else Err NotBuilt
+command_text files (check file) = and_then check_text (scenario_in (files file))
+command_text files (layout file) = Err NotBuilt
+command_text files (plan file) = Err NotBuilt
+command_text files (dump scenario scene) = Err NotBuilt
+command_text files (make number scene) = Err NotBuilt
+command_text files (bench number workers) = Err NotBuilt
+
+-- a text to its end, or the line of the refusal
+abbrev pub outcome_of : Result (List ℕ) Refusal → Outcome
+outcome_of (Ok text) = record { text = text; status = Done }
+outcome_of (Err refusal) = record { text = refusal_line refusal; status = Refused }
+
 abbrev pub command_outcome : Files → Command → Outcome
-command_outcome files (run file workers trace) = if is_alone workers && not trace then file_outcome Run (files file) else unbuilt
-command_outcome files (check file) = file_outcome Check (files file)
-command_outcome files (layout file) = unbuilt
-command_outcome files (plan file) = unbuilt
-command_outcome files (dump scenario scene) = unbuilt
-command_outcome files (make number scene) = unbuilt
-command_outcome files (bench number workers) = unbuilt
+command_outcome files command = outcome_of (command_text files command)
 
 -- words that are no command
 abbrev pub bad_words : Outcome

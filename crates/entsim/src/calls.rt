@@ -1,46 +1,54 @@
 //! Each command as a call of its own, which starts no thread and returns.
-ghost use Rattle.std.specs.Prelude.{◌≡◌, IfSome};
+ghost use Rattle.std.specs.Prelude.{◌≡◌, ℕ, List, Option, Result, IfSome};
 ghost use Rattle.ent_io.specs.Status.{StatusCauses};
+ghost use Rattle.entsim.specs.declared.stop.Refusal.{Refusal as Refused};
 ghost use Rattle.entsim.specs.Words.{check, run};
-ghost use Rattle.entsim.specs.Outcome.{bad_words, command_outcome, is_alone, unbuilt};
-ghost use Rattle.entsim.specs.Headline.{Ends, OfBadWords, OfCommand, status_after};
+ghost use Rattle.entsim.specs.Outcome.{bad_words, command_outcome, is_alone, outcome_of};
+ghost use Rattle.entsim.specs.Headline.{Ends, OfBadWords, OfCommand};
+ghost use Rattle.entsim.specs.Stops.{Gives, StopCauses};
 
-use crate::refusal::{refuse_unbuilt, refuse_words};
-use crate::run::scenario_file;
-use crate::task::Task;
-use ent_io::{End, Sink, Status, Store};
+use crate::commands::{check_file, run_file};
+use crate::refusal::write_refusal;
+use crate::stop::{Refusal, Stop};
+use ent_io::{End, Sink, Status, Store, write_whole};
 use std::alloc::Global;
 
-/// The status of a call, from the end of one below it.
-fn status_after(end: Result<Status, End>) -> Status
-    ensures { result ≡ status_after end }
-{
-    match end {
-        Ok(status) => status,
-        Err(end) => Status::from(end),
-    }
-}
-
-/// Writes the line of words that are no command. The status is `BadWords`, or `WriteFault` or `Memory` after a prefix of
-/// the line. This project's own.
-pub fn words_call<W: Sink>(out: &mut W) -> Status
+/// Writes the line of words that are no command.
+#[tactic(auto, unfolding(crate::specs::ErrorLines::words_line))]
+pub fn refuse_words<W: Sink>(out: &mut W) -> Status
     ensures headline { Ends bad_words result (W.text out.old) (W.text out.new) }
     ensures words { OfBadWords result }
     ensures causes { StatusCauses result 0 0 (W.faults out.old) (W.faults out.new) }
 {
-    let end = refuse_words(out);
-    status_after(end)
+    match write_whole(out, b"error words\n") {
+        Ok(()) => Status::BadWords,
+        Err(end) => Status::from(End::from(end)),
+    }
 }
 
-/// Writes the line of a command that isn't built yet. The status is `Refused`, or `WriteFault` or `Memory` after a prefix
-/// of the line. This project's own.
-pub fn unbuilt_call<W: Sink>(out: &mut W) -> Status
-    ensures headline { Ends unbuilt result (W.text out.old) (W.text out.new) }
+/// Writes the line of a refusal.
+pub fn refuse<W: Sink>(alloc: Global, refusal: &Refusal, out: &mut W) -> Status
+    ensures headline { Ends (outcome_of (Err refusal.now)) result (W.text out.old) (W.text out.new) }
     ensures words { OfCommand result }
     ensures causes { StatusCauses result 0 0 (W.faults out.old) (W.faults out.new) }
 {
-    let end = refuse_unbuilt(out);
-    status_after(end)
+    match write_refusal(alloc, refusal, out) {
+        Ok(()) => Status::Refused,
+        Err(end) => Status::from(end),
+    }
+}
+
+/// Ends a command: writes the line of its refusal, if it is refused, and gives its status.
+fn conclude<W: Sink>(alloc: Global, written: Result<(), Stop>, out: &mut W) -> Status
+    ensures headline { (wanted : Result (List ℕ) Refused) (old : Option (List ℕ)) → Gives wanted written old (W.text out.old) → Ends (outcome_of wanted) result old (W.text out.new) }
+    ensures words { OfCommand result }
+    ensures causes { (before now sink : ℕ) → StopCauses written before now sink (W.faults out.old) → StatusCauses result before now sink (W.faults out.new) }
+{
+    match written {
+        Ok(()) => Status::Done,
+        Err(Stop::Refused(refusal)) => refuse(alloc, &refusal, out),
+        Err(Stop::Ended(end)) => Status::from(end),
+    }
 }
 
 /// Reads and checks the scenario of a file, and writes the numbers of its own types, its systems and its frames, or its
@@ -60,11 +68,11 @@ pub fn check_call<S: Store, W: Sink>(
     ensures causes { StatusCauses result (S.faults store.old) (S.faults store.new) (W.faults out.old) (W.faults out.new) }
     ensures files { S.files store.new ≡ S.files store.old }
 {
-    let end = scenario_file(alloc, Task::Check, scenario, store, out);
-    status_after(end)
+    let written = check_file(alloc, scenario, store, out);
+    conclude(alloc, written, out)
 }
 
-/// Says whether one worker is asked for, as where none are named.
+/// `true` if one worker is asked for, as if none are named.
 fn is_alone(workers: Option<u32>) -> bool
     ensures { result ≡ is_alone workers }
 {
@@ -93,11 +101,11 @@ pub fn run_call<S: Store, W: Sink>(
     ensures files { S.files store.new ≡ S.files store.old }
 {
     if !is_alone(workers) {
-        return unbuilt_call(out);
+        return refuse(alloc, &Refusal::NotBuilt, out);
     }
     if trace {
-        return unbuilt_call(out);
+        return refuse(alloc, &Refusal::NotBuilt, out);
     }
-    let end = scenario_file(alloc, Task::Run, scenario, store, out);
-    status_after(end)
+    let written = run_file(alloc, scenario, store, out);
+    conclude(alloc, written, out)
 }

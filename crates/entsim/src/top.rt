@@ -5,7 +5,8 @@ ghost use Rattle.entsim.specs.Words.{command_of, command_view};
 ghost use Rattle.entsim.specs.Outcome.{command_outcome, outcome};
 ghost use Rattle.entsim.specs.Headline.{Ends, OfCommand, WordsDecide};
 
-use crate::calls::{check_call, run_call, unbuilt_call, words_call};
+use crate::calls::{check_call, refuse, refuse_words, run_call};
+use crate::stop::Refusal;
 use crate::words::{Command, read_words};
 use ent_io::{Gate, Sink, Status, Store};
 use std::alloc::Global;
@@ -37,7 +38,7 @@ pub fn entsim<R: Threads + Wait, S: Store, W: Sink, G: Gate>(
     ensures files { S.files store.new ≡ S.files store.old }
 {
     match read_words(words) {
-        None => words_call(out),
+        None => refuse_words(out),
         Some(command) => obey(alloc, command, store, out),
     }
 }
@@ -56,10 +57,10 @@ fn obey<S: Store, W: Sink>(alloc: Global, command: Command, store: &mut S, out: 
             trace,
         } => run_call(alloc, file, workers, trace, store, out),
         Command::Check { file } => check_call(alloc, file, store, out),
-        Command::Layout { .. } => unbuilt_call(out),
-        Command::Plan { .. } => unbuilt_call(out),
-        Command::Dump { .. } => unbuilt_call(out),
-        Command::Make { .. } => unbuilt_call(out),
-        Command::Bench { .. } => unbuilt_call(out),
+        Command::Layout { .. } => refuse(alloc, &Refusal::NotBuilt, out),
+        Command::Plan { .. } => refuse(alloc, &Refusal::NotBuilt, out),
+        Command::Dump { .. } => refuse(alloc, &Refusal::NotBuilt, out),
+        Command::Make { .. } => refuse(alloc, &Refusal::NotBuilt, out),
+        Command::Bench { .. } => refuse(alloc, &Refusal::NotBuilt, out),
     }
 }

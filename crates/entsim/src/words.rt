@@ -7,8 +7,6 @@ ghost use Rattle.entsim.specs.Words.{command_of, command_view, file_of, lone_fil
 
 mod number;
 mod options;
-#[cfg(test)]
-mod tests;
 
 use number::read_number;
 use options::read_options;

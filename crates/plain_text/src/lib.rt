@@ -5,6 +5,3 @@ mod line;
 mod world;
 
 pub use world::write_world;
-
-#[cfg(test)]
-mod tests;

@@ -15,7 +15,7 @@ use plain_world::{Place, PlainBlock, PlainWorld};
 use std::alloc::Global;
 
 /// Writes the line of a row, whose entity has this index. `line` is a buffer.
-pub(crate) fn write_row<W: Sink>(
+fn write_row<W: Sink>(
     registry: &Registry,
     block: &PlainBlock,
     row: usize,

@@ -17,11 +17,7 @@ mod reading;
 mod room;
 mod runnable;
 mod running;
-#[cfg(test)]
-mod spawn_tests;
 mod spawning;
-#[cfg(test)]
-mod tests;
 mod visiting;
 mod world;
 

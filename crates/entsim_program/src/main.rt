@@ -1,0 +1,51 @@
+//! The program `entsim`: it does the command that its arguments name, over the files of the current folder, and prints
+//! what the command writes.
+#![tactic(auto)]
+
+use ent_io::{FolderStore, NoGate, SinkEnd, Status, StdSink};
+use std::env::{self, Env};
+use std::io;
+use std::process::ExitCode;
+
+/// The number that the program ends with.
+fn number(status: Status) -> u8 {
+    match status {
+        Status::Done => 0,
+        Status::BadWords => 2,
+        Status::Refused => 3,
+        Status::KeyShared => 4,
+        Status::ReadFault => 5,
+        Status::WriteFault => 6,
+        Status::Memory => 7,
+    }
+}
+
+/// The status once the rest of the text is handed on: a text that can't be handed on is a fault of writing.
+fn settled(status: Status, handed: Result<(), SinkEnd>) -> Status {
+    match handed {
+        Ok(()) => status,
+        Err(_) => Status::WriteFault,
+    }
+}
+
+/// The words after the program's name. A word that isn't UTF-8 is in no command, so such a list is read as none at all.
+fn read_args<R: Env + AllocGlobal>(rt: &R) -> io::Result<Vec<String>> {
+    match env::args(rt) {
+        Ok(all) => Ok(all.skip(1).collect::<Vec<String>>(rt.alloc())?),
+        Err(error) if error.kind() == io::ErrorKind::InvalidData => Ok(Vec::new(rt.alloc())),
+        Err(error) => Err(error),
+    }
+}
+
+fn main(rt: HostRuntime) -> io::Result<ExitCode> {
+    let Ok(words) = read_args(&rt) else {
+        return Ok(ExitCode::from(number(Status::Memory)));
+    };
+    let mut store = FolderStore::new(&rt, rt.alloc());
+    let Ok(mut out) = StdSink::new(rt.alloc(), io::writer(&rt)) else {
+        return Ok(ExitCode::from(number(Status::Memory)));
+    };
+    let status = entsim::entsim(&rt, rt.alloc(), &words, &mut store, &mut out, &NoGate);
+    let status = settled(status, out.finish());
+    Ok(ExitCode::from(number(status)))
+}

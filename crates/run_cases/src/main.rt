@@ -1,0 +1,41 @@
+//! Whole runs of the top call, over files and a text in memory.
+//!
+//! The table `cases.txt` of the current folder has cases: the files that the store has, the calls of the store and of the
+//! sink that fail, and the words. The program does each case and prints the text and the status. What it must print was
+//! worked out by an independent program, and for calls that fail by a script from the whole text.
+//!
+//! The status is 0, or 2 where the table can't be read or memory runs out.
+#![tactic(auto)]
+
+mod case;
+mod folder;
+mod table;
+
+use anyhow::{Context, Result};
+use std::process::ExitCode;
+use std::rt::Files;
+use std::sync::Wait;
+use std::thread::Threads;
+use std::{fs, io};
+
+/// The table's file.
+const TABLE: &str = "cases.txt";
+
+/// The status if the cases can't be done.
+const NOT_DONE: u8 = 2;
+
+fn main(rt: HostRuntime) -> io::Result<ExitCode> {
+    match do_file(&rt) {
+        Ok(()) => Ok(ExitCode::SUCCESS),
+        Err(error) => {
+            eprintln!(rt; "{error:#}")?;
+            Ok(ExitCode::from(NOT_DONE))
+        }
+    }
+}
+
+/// Does the cases of the table's file.
+fn do_file<R: Files + Print + AllocGlobal + Threads + Wait>(rt: &R) -> Result<()> {
+    let text = fs::read_to_string(rt, TABLE).context(TABLE)?;
+    table::do_table(rt, text.as_str())
+}

@@ -1,0 +1,58 @@
+//! Scenarios that the tests share.
+use ent_types::{Sequence, TypeSet};
+use expr_trees::PartExpr;
+use plain_world::{PlainWorld, is_runnable, run_scenario, spawn_all};
+use scenario_read::read_scenario;
+use scenario_record::{Scenario, SpawnEntry};
+use std::alloc::Global;
+use std::test::Fail;
+
+/// Two frames of a system that adds 1 to a number, over the types 3 to 6: `Count` with an i32 field, `Wide` and `Wider`
+/// with eight i64 fields each, and the tag `Bare`.
+const TICK: &str = "frames = 2
+type = [
+  { name = 'Count', fields = ['v:i32'] },
+  { name = 'Wide', fields = ['a:i64', 'b:i64', 'c:i64', 'd:i64', 'e:i64', 'f:i64', 'g:i64', 'h:i64'] },
+  { name = 'Wider', fields = ['a:i64', 'b:i64', 'c:i64', 'd:i64', 'e:i64', 'f:i64', 'g:i64', 'h:i64'] },
+  { name = 'Bare', kind = 'tag' },
+]
+spawn = [{ count = 2, with = { Count = [5] } }]
+system = [{ name = 'Tick', all = ['Count'], set = ['Count.v = Count.v + 1'] }]
+";
+
+/// The scenario.
+pub(crate) fn tick(alloc: Global) -> Result<Scenario, Fail> {
+    Ok(read_scenario(alloc, TICK.as_bytes())?)
+}
+
+/// The scenario with other spawns.
+pub(crate) fn with_spawns(alloc: Global, spawns: Vec<SpawnEntry>) -> Result<Scenario, Fail> {
+    let mut scenario = tick(alloc)?;
+    scenario.spawn = Sequence::from_vec(spawns);
+    Ok(scenario)
+}
+
+/// Rows with these parts.
+pub(crate) fn rows(count: u32, parts: Vec<PartExpr>) -> SpawnEntry {
+    SpawnEntry {
+        count,
+        parts: Sequence::from_vec(parts),
+        disabled: TypeSet::empty(),
+    }
+}
+
+/// The world after the spawns.
+pub(crate) fn spawned(alloc: Global, scenario: &Scenario) -> Result<PlainWorld, Fail> {
+    if !is_runnable(scenario) {
+        return Err("not to be run".into());
+    }
+    Ok(spawn_all(alloc, scenario)?)
+}
+
+/// The world after all frames.
+pub(crate) fn run(alloc: Global, scenario: &Scenario) -> Result<PlainWorld, Fail> {
+    if !is_runnable(scenario) {
+        return Err("not to be run".into());
+    }
+    Ok(run_scenario(alloc, scenario)?)
+}
