@@ -1,6 +1,7 @@
 //! The commands of a system, as a scenario declares them.
 ghost use Rattle.std.specs.Prelude.{◌≡◌, ◌≤◌, ◌<◌, length, IfOk};
 ghost use Rattle.toml.specs.View.{view};
+ghost use Rattle.ent_types.specs.declared.limits.TheConstants.{MOST_COMMANDS};
 ghost use Rattle.scenario_record.specs.Readings.{Answers};
 ghost use Rattle.scenario_read.specs.ReadCommands.{point, same_point, name_made, made_from, command, one_more_command, command_list};
 

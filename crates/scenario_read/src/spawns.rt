@@ -2,6 +2,7 @@
 ghost use Rattle.std.specs.Prelude.{◌≡◌, ◌<◌, length, All, IfOk};
 ghost use Rattle.toml.specs.Data.{integer, string};
 ghost use Rattle.toml.specs.View.{view, items_view};
+ghost use Rattle.ent_types.specs.declared.limits.TheConstants.{MOST_TYPES};
 ghost use Rattle.scenario_record.specs.Readings.{Answers};
 ghost use Rattle.scenario_read.specs.ReadSpawns.{number_value, ref_value, field_value, values_from, part_values, part_of, part, with_table, part_types, disabled_types, spawn};
 

@@ -2,6 +2,8 @@
 ghost use Rattle.std.specs.Prelude.{◌≡◌, ◌≤◌, ◌<◌, ◌+◌, ◌-◌, ◌∷◌, ◌++◌, [], codes, length, None, IfOk, IsTrue, OnOk};
 ghost use Rattle.std.specs.List.{list_any};
 ghost use Rattle.toml.specs.View.{view, table_view};
+ghost use Rattle.ent_types.specs.declared.entity.TheConstants.{BUILT_IN_TYPES};
+ghost use Rattle.ent_types.specs.declared.limits.TheConstants.{MOST_FIELDS, MOST_TYPES};
 ghost use Rattle.ent_types.specs.Types.{same_name, is_lawful_type};
 ghost use Rattle.ent_types.specs.Refusals.{refusal};
 ghost use Rattle.ent_types.specs.Registries.{type_named, built_in_types};
