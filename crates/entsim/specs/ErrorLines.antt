@@ -3,9 +3,9 @@ use Rattle.std.specs.Prelude.{ℕ, List, [], ◌++◌, codes, Option, None, Some
 use Rattle.std.specs.Fmt.{decimal}
 use Rattle.ent_io.specs.declared.reading.Missing.{Missing}
 use Rattle.ent_io.specs.declared.reading.Missing.TheVariants.{Absent, TooLong as OverLong}
-use Rattle.scenario_read.specs.declared.fault.Cause.{Cause}
-use Rattle.scenario_read.specs.declared.fault.Cause.TheVariants.{NotToml, UnknownKey, Missing as MissingKey, WrongType, TooMany, NumberRange, BadName, BadWord, UnknownName, BadKind, DuplicateName, WrongCount, BadShape, NotSibling, TooLarge, TooManyEntities, LookupOfWritten, Cycle, TooLong, BadChar, TooDeep, Unexpected, NotBuilt}
-use Rattle.scenario_read.specs.declared.fault.BadScenario.{BadScenario}
+use Rattle.scenario_record.specs.declared.fault.Cause.{Cause}
+use Rattle.scenario_record.specs.declared.fault.Cause.TheVariants.{NotToml, UnknownKey, Missing as MissingKey, WrongType, TooMany, NumberRange, BadName, BadWord, UnknownName, BadKind, DuplicateName, WrongCount, BadShape, NotSibling, TooLarge, TooManyEntities, LookupOfWritten, Cycle, TooLong, BadChar, TooDeep, Unexpected, NotBuilt}
+use Rattle.scenario_record.specs.declared.fault.BadScenario.{BadScenario}
 
 -- words that are no command
 unfoldable pub words_line : List ℕ

@@ -6,10 +6,10 @@ use Rattle.ent_io.specs.declared.end.Status.{Status}
 use Rattle.ent_io.specs.declared.end.Status.TheVariants.{Done, BadWords, Refused}
 use Rattle.ent_io.specs.declared.reading.Missing.{Missing}
 use Rattle.ent_io.specs.declared.reading.Missing.TheVariants.{Absent, TooLong}
-use Rattle.scenario_read.specs.declared.fault.BadScenario.{BadScenario}
+use Rattle.scenario_record.specs.declared.fault.BadScenario.{BadScenario}
 use Rattle.scenario_record.specs.declared.record.Scenario.{Scenario}
 use Rattle.scenario_read.specs.ReadScenario.{scenario_of}
-use Rattle.scenario_check.specs.declared.plan.Plan.{Plan}
+use Rattle.scenario_record.specs.declared.plan.Plan.{Plan}
 use Rattle.scenario_check.specs.Planned.{checked}
 use Rattle.scenario_check.specs.Built.{is_built}
 use Rattle.plain_world.specs.Run.{world_after}

@@ -8,7 +8,7 @@ ghost use Rattle.entsim.specs.Outcome.{bad_words, refused, unbuilt};
 
 use ent_io::{End, Missing, Sink, Status, write_whole};
 use ent_types::Memory;
-use scenario_read::{BadScenario, Cause};
+use scenario_record::{BadScenario, Cause};
 use std::alloc::Global;
 
 /// Refuses words that are no command.

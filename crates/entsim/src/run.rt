@@ -5,7 +5,7 @@ ghost use Rattle.entsim.specs.Headline.{Gives, Obeys};
 ghost use Rattle.scenario_check.specs.Read.{IsRead};
 ghost use Rattle.scenario_check.specs.Planned.{checked};
 ghost use Rattle.scenario_check.specs.Built.{is_built};
-ghost use Rattle.scenario_check.specs.declared.plan.Plan.{Plan};
+ghost use Rattle.scenario_record.specs.declared.plan.Plan.{Plan};
 ghost use Rattle.scenario_record.specs.Runnable.{IsRunnable};
 ghost use Rattle.entsim.specs.Outcome.{built_outcome, checked_outcome, file_outcome, passed_outcome, read_outcome, run_outcome};
 
@@ -15,9 +15,10 @@ use crate::task::Task;
 use ent_io::{End, Missing, ReadEnd, Sink, Status, Store, read_whole};
 use plain_text::write_world;
 use plain_world::run_scenario;
-use scenario_check::{check, is_built, what_is_read_can_be_checked, what_passes_can_be_run};
-use scenario_read::{ScenarioFault, read_scenario};
-use scenario_record::Scenario;
+use scenario_check::{check, is_built};
+use scenario_laws::{what_is_read_can_be_checked, what_passes_can_be_run};
+use scenario_read::read_scenario;
+use scenario_record::{Scenario, ScenarioFault};
 use std::alloc::Global;
 
 /// The most bytes of a scenario's file: 1 MiB. This project's own.

@@ -1,31 +1,40 @@
-//! Scenarios, each tried up to its first fault.
+//! Scenarios, each read and checked, and what comes out.
 //!
-//! The file `scenarios.txt` of the current folder has scenarios with a line `----` between them. The program reads and
-//! checks each, and prints a line: `ok`, or the first fault with its place. What it must print was worked out by an
-//! independent program.
+//! The files of the current folder have scenarios with a line `----` between them. For each scenario of `scenarios.txt`
+//! the program prints a line: `ok`, or the first fault with its place. For each scenario of `plans.txt` it prints the
+//! numbers of its record, whether it is of a form that is run, and its plan. The expected lines were worked out by
+//! independent programs.
 //!
-//! The status is 0, or 2 where the file can't be read or memory runs out.
+//! The status is 0, or 2 if a file can't be read or memory runs out.
 #![tactic(auto)]
 
+mod plans;
+
 use anyhow::{Context, Result, bail};
-use scenario_check::{check, what_is_read_can_be_checked};
-use scenario_read::{BadScenario, Cause, ScenarioFault, read_scenario};
+use plans::try_plan;
+use scenario_check::check;
+use scenario_laws::what_is_read_can_be_checked;
+use scenario_read::read_scenario;
+use scenario_record::{BadScenario, Cause, ScenarioFault};
 use std::alloc::Global;
 use std::process::ExitCode;
 use std::rt::Files;
 use std::{fs, io};
 
-/// The file of scenarios.
+/// The file of scenarios whose outcome is printed.
 const SCENARIOS: &str = "scenarios.txt";
 
-/// What stands between two of them.
+/// The file of scenarios whose plan is printed.
+const PLANS: &str = "plans.txt";
+
+/// The line between two scenarios.
 const BETWEEN: &str = "----\n";
 
-/// The status where they can't be tried.
+/// The status if they can't be tried.
 const NOT_TRIED: u8 = 2;
 
 fn main(rt: HostRuntime) -> io::Result<ExitCode> {
-    match try_file(&rt) {
+    match try_files(&rt) {
         Ok(()) => Ok(ExitCode::SUCCESS),
         Err(error) => {
             eprintln!(rt; "{error:#}")?;
@@ -34,11 +43,15 @@ fn main(rt: HostRuntime) -> io::Result<ExitCode> {
     }
 }
 
-/// Tries each scenario of the file.
-fn try_file<R: Files + Print + AllocGlobal>(rt: &R) -> Result<()> {
-    let all = fs::read_to_string(rt, SCENARIOS).context(SCENARIOS)?;
-    for text in all.as_str().split(BETWEEN) {
+/// Tries each scenario of both files.
+fn try_files<R: Files + Print + AllocGlobal>(rt: &R) -> Result<()> {
+    let scenarios = fs::read_to_string(rt, SCENARIOS).context(SCENARIOS)?;
+    for text in scenarios.as_str().split(BETWEEN) {
         try_scenario(rt, text)?;
+    }
+    let plans = fs::read_to_string(rt, PLANS).context(PLANS)?;
+    for text in plans.as_str().split(BETWEEN) {
+        try_plan(rt, text)?;
     }
     Ok(())
 }
@@ -53,7 +66,7 @@ fn try_scenario<R: Print + AllocGlobal>(rt: &R, text: &str) -> Result<()> {
     Ok(())
 }
 
-/// The first fault of a scenario, as it is read or checked.
+/// Returns the first fault of a scenario, as it is read or checked.
 fn read_and_check(alloc: Global, text: &str) -> Result<(), ScenarioFault> {
     what_is_read_can_be_checked();
     let scenario = read_scenario(alloc, text.as_bytes())?;
@@ -63,15 +76,15 @@ fn read_and_check(alloc: Global, text: &str) -> Result<(), ScenarioFault> {
 
 /// Prints a fault with its place. A fault of the whole file has none.
 fn print_fault<R: Print>(rt: &R, bad: &BadScenario) -> Result<()> {
-    let cause = bad.cause;
-    if cause == Cause::NotToml {
-        println!(rt; "{cause:?}")?;
+    let cause = bad.cause.name();
+    if bad.cause == Cause::NotToml || bad.cause == Cause::NotBuilt {
+        println!(rt; "{cause}")?;
         return Ok(());
     }
     let key = std::str::from_utf8(bad.key.as_slice()).context("a path that is no text")?;
     match bad.at {
-        Some(at) => println!(rt; "{cause:?} key={key} at={at}")?,
-        None => println!(rt; "{cause:?} key={key}")?,
+        Some(at) => println!(rt; "{cause} key={key} at={at}")?,
+        None => println!(rt; "{cause} key={key}")?,
     }
     Ok(())
 }

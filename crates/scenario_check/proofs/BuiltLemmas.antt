@@ -4,8 +4,9 @@ use Rattle.std.specs.Prelude.{nat_lt}
 use Rattle.std.proofs.lemmas.Bool.Decides.{nat_tests}
 use Rattle.ent_types.specs.TypeSets.{has_type, with_type}
 use Rattle.ent_types.proofs.TypeSetLemmas.{has_type-with_type}
-use Rattle.scenario_check.specs.Touched.{put_type}
-use Rattle.scenario_check.specs.Walks.{with_known}
+use Rattle.scenario_check.specs.Found.{put_type}
+use Rattle.scenario_check.specs.Found.{with_types}
+use Rattle.scenario_check.proofs.UseLemmas.{found-tested}
 use Rattle.scenario_check.specs.Built.{is_built_in_tag, names_built_in}
 
 -- one of two, of each of two pairs
@@ -55,7 +56,7 @@ tags-put types ty = by (nat_lt ty 256) refl
     by false past = sym (ap (λ b. b || names_built_in types) (no_tag ty past))
 
 -- the types of a list, in a set
-tags-known : (set types : List ℕ) → names_built_in (with_known set types) ≡ (names_built_in set || names_built_in types)
+tags-known : (set types : List ℕ) → names_built_in (with_types set types) ≡ (names_built_in set || names_built_in types)
 tags-known set [] = or_none (names_built_in set)
   where
     or_none : (b : Bool) → b ≡ (b || false)
@@ -66,5 +67,7 @@ tags-known set (x ∷ xs) =
     ∙ ap (λ b. b || names_built_in xs) (tags-put set x)
     ∙ or_swap (is_built_in_tag x) (names_built_in set) (names_built_in xs)
 
-pub in_the_set : (types : List ℕ) → names_built_in (with_known [] types) ≡ names_built_in types
+pub in_the_set : (types : List ℕ) → names_built_in (with_types [] types) ≡ names_built_in types
 in_the_set types = tags-known [] types
+
+pub ruleset tags = (in_the_set, found-tested)

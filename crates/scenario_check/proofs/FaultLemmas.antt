@@ -1,9 +1,10 @@
 -- How faults are seen from further out.
 use Rattle.std.proofs.Common.{◌≡◌, Option, Some, Err, sym, ap, ◌∙◌}
-use Rattle.scenario_read.specs.declared.fault.BadScenario.{BadScenario}
-use Rattle.scenario_read.specs.declared.fault.ScenarioFault.{ScenarioFault}
-use Rattle.scenario_read.specs.declared.fault.ScenarioFault.TheVariants.{Bad, Memory}
-use Rattle.scenario_read.specs.Faults.{IsMoved, Passes}
+use Rattle.scenario_record.specs.declared.fault.BadScenario.{BadScenario}
+use Rattle.scenario_record.specs.declared.fault.ScenarioFault.{ScenarioFault}
+use Rattle.scenario_record.specs.declared.fault.ScenarioFault.TheVariants.{Bad, Memory}
+use Rattle.scenario_record.specs.Faults.{IsMoved}
+use Rattle.scenario_record.specs.Readings.{Passes}
 
 -- a fault that is moved twice
 pub moved_twice : (inner outer : BadScenario → BadScenario) (f g h : ScenarioFault) → IsMoved inner f g → IsMoved outer g h → IsMoved (λ b. outer (inner b)) f h

@@ -1,11 +1,8 @@
 pub mod Steps
 pub mod FaultLemmas
-pub mod TypeLemmas
-pub mod WalkLemmas
+pub mod UseLemmas
 pub mod NameLemmas
 pub mod LabelLemmas
 pub mod SiblingLemmas
 pub mod RowLemmas
-pub mod ReadLemmas
 pub mod BuiltLemmas
-pub mod RunLemmas

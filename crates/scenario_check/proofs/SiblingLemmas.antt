@@ -1,6 +1,6 @@
 -- The names by which a child orders itself.
 use Rattle.std.proofs.Common.{ℕ, ◌≡◌, ◌+◌, ◌<◌, List, Option, length, get_or, drop, sym, ap, ◌∙◌}
-use Rattle.scenario_read.specs.declared.fault.Cause.{Cause}
+use Rattle.scenario_record.specs.declared.fault.Cause.{Cause}
 use Rattle.scenario_check.specs.declared.siblings.Sibling.{Sibling}
 use Rattle.scenario_check.specs.Checks.{cause_of_name, or_next, order_fault_from}
 use Rattle.scenario_check.proofs.Steps.{here}

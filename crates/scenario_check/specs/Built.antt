@@ -1,13 +1,15 @@
 -- Which scenarios are of a form that is run.
 use Rattle.std.specs.Prelude.{ℕ, Bool, true, false, not, ◌&&◌, ◌||◌, ◌==◌, nat_lt, List, [], length, drop, map, flat_map}
 use Rattle.std.specs.List.{list_any, list_all}
+use Rattle.ent_types.specs.declared.entity.TheConstants.{BUILT_IN_TYPES}
 use Rattle.ent_types.specs.declared.kinds.Kind.{Kind}
-use Rattle.ent_types.specs.declared.kinds.Kind.TheVariants.{Plain, Tag, Shared, Cleanup}
+use Rattle.ent_types.specs.declared.kinds.Kind.TheVariants.{Plain, Tag, Shared, Cleanup, Buffer}
 use Rattle.ent_types.specs.declared.type_info.TypeInfo.{TypeInfo}
 use Rattle.scenario_record.specs.declared.record.Scenario.{Scenario}
 use Rattle.scenario_record.specs.declared.record.SpawnEntry.{SpawnEntry}
 use Rattle.scenario_record.specs.declared.record.SystemEntry.{SystemEntry}
-use Rattle.scenario_check.specs.Touched.{tested_in, in_value}
+use Rattle.scenario_record.specs.Uses.{uses_of_assigns}
+use Rattle.scenario_check.specs.Found.{tested_types}
 
 -- ---- types
 
@@ -16,10 +18,11 @@ is_built_kind Plain = true
 is_built_kind Tag = true
 is_built_kind Shared = false
 is_built_kind Cleanup = false
+is_built_kind Buffer = false
 
--- the declared types come after the three built-in ones
+-- the declared types come after the built-in ones
 abbrev pub are_built_types : List TypeInfo → Bool
-are_built_types registry = list_all (λ t. is_built_kind t.kind) (drop 3 registry)
+are_built_types registry = list_all (λ t. is_built_kind t.kind) (drop BUILT_IN_TYPES registry)
 
 -- ---- the built-in tags: type 0 is `Disabled`, and type 1 is `Prefab`
 
@@ -29,9 +32,9 @@ is_built_in_tag ty = nat_lt ty 2
 abbrev pub names_built_in : List ℕ → Bool
 names_built_in types = list_any is_built_in_tag types
 
--- the types that the assigns of a system name by `has` and `on`
+-- the types that the assignments of a system name by `has` and `on`
 abbrev pub tested_by : SystemEntry → List ℕ
-tested_by y = flat_map (λ a. in_value tested_in (λ r. []) a.value) y.set
+tested_by y = flat_map tested_types (uses_of_assigns y)
 
 abbrev pub is_built_spawn : SpawnEntry → Bool
 is_built_spawn p = not (names_built_in (map (λ part. part.ty.0) p.parts))

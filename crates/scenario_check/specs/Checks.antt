@@ -2,14 +2,15 @@
 use Rattle.std.specs.Prelude.{ℕ, ◌+◌, Bool, false, not, ◌&&◌, ◌==◌, nat_lt, if◌then◌else◌, List, [], ◌∷◌, ◌++◌, map, codes, Option, None, Some, find}
 use Rattle.std.specs.List.{list_any}
 use Rattle.std.specs.Option.{option_map, option_map_or}
+use Rattle.ent_types.specs.declared.limits.TheConstants.{MOST_ENTITIES}
 use Rattle.ent_types.specs.declared.type_info.TypeInfo.{TypeInfo}
 use Rattle.ent_types.specs.Registries.{type_at}
 use Rattle.ent_types.specs.Types.{same_name, column_size}
 use Rattle.ent_types.specs.TypeSets.{meets}
 use Rattle.chunk_layout.specs.Capacity.{capacity_of}
-use Rattle.scenario_read.specs.declared.fault.Cause.{Cause}
-use Rattle.scenario_read.specs.declared.fault.Cause.TheVariants.{DuplicateName, UnknownName, NotSibling, TooLarge, TooManyEntities, LookupOfWritten}
-use Rattle.scenario_read.specs.declared.fault.BadScenario.{BadScenario}
+use Rattle.scenario_record.specs.declared.fault.Cause.{Cause}
+use Rattle.scenario_record.specs.declared.fault.Cause.TheVariants.{DuplicateName, UnknownName, NotSibling, TooLarge, TooManyEntities, LookupOfWritten}
+use Rattle.scenario_record.specs.declared.fault.BadScenario.{BadScenario}
 use Rattle.scenario_record.specs.declared.record.Scenario.{Scenario}
 use Rattle.scenario_record.specs.declared.record.SpawnEntry.{SpawnEntry}
 use Rattle.scenario_record.specs.declared.record.GroupEntry.{GroupEntry}
@@ -17,9 +18,11 @@ use Rattle.scenario_record.specs.declared.record.SystemEntry.{SystemEntry}
 use Rattle.scenario_record.specs.declared.record.EventEntry.{EventEntry}
 use Rattle.scenario_record.specs.declared.record.EventAct.{EventAct}
 use Rattle.scenario_record.specs.declared.record.EventAct.TheVariants.{Operate, Load, Unload}
-use Rattle.scenario_read.specs.Faults.{bad, below_key, below_place}
+use Rattle.scenario_record.specs.Faults.{bad, below_key, below_place}
+use Rattle.scenario_record.specs.Readings.{fault_if}
 use Rattle.scenario_check.specs.declared.siblings.Sibling.{Sibling}
-use Rattle.scenario_check.specs.Touched.{set_of, written, looked_up}
+use Rattle.scenario_check.specs.Found.{set_of}
+use Rattle.scenario_check.specs.Touched.{written, looked_up_by}
 
 -- ---- faults and their places
 
@@ -31,10 +34,16 @@ at_element key i f = below_key key (below_place i f)
 abbrev pub at_key_of : List ℕ → ℕ → List ℕ → BadScenario → BadScenario
 at_key_of key i inner f = at_element key i (below_key inner f)
 
--- the first fault of two tests
-abbrev pub first_of : Option BadScenario → Option BadScenario → Option BadScenario
-first_of (Some f) later = Some f
-first_of None later = later
+-- the fault of the element that was found, if one was
+abbrev pub fault_at : List ℕ → List ℕ → Cause → Option ℕ → Option BadScenario
+fault_at key inner cause None = None
+fault_at key inner cause (Some i) = Some (at_key_of key i inner (bad cause))
+
+-- the first fault of several tests
+abbrev pub first_of : List (Option BadScenario) → Option BadScenario
+first_of [] = None
+first_of (Some f ∷ later) = Some f
+first_of (None ∷ later) = first_of later
 
 -- ---- names
 
@@ -52,15 +61,13 @@ group_names s = map (λ g. g.name) s.group
 abbrev pub system_names : Scenario → List (List ℕ)
 system_names s = map (λ y. y.name) s.system
 
-abbrev pub name_fault : List ℕ → Option ℕ → Option BadScenario
-name_fault key None = None
-name_fault key (Some i) = Some (at_key_of key i (codes "name") (bad DuplicateName))
-
 -- group names, then system names, are distinct from each other and from the roots
 unfoldable pub names_fault : Scenario → Option BadScenario
 names_fault s =
-    first_of (name_fault (codes "group") (repeated_from root_groups 0 (group_names s)))
-    (name_fault (codes "system") (repeated_from (root_groups ++ group_names s) 0 (system_names s)))
+    first_of (
+    fault_at (codes "group") (codes "name") DuplicateName (repeated_from root_groups 0 (group_names s)) ∷
+    fault_at (codes "system") (codes "name") DuplicateName (repeated_from (root_groups ++ group_names s) 0 (system_names s)) ∷
+    [])
 
 -- ---- parents
 
@@ -74,14 +81,12 @@ abbrev pub stray_from : List (List ℕ) → ℕ → List SystemEntry → Option 
 stray_from known i [] = None
 stray_from known i (y ∷ ys) = if list_any (same_name y.group) known then stray_from known (i + 1) ys else Some i
 
-abbrev pub unknown_at : List ℕ → List ℕ → Option ℕ → Option BadScenario
-unknown_at key inner None = None
-unknown_at key inner (Some i) = Some (at_key_of key i inner (bad UnknownName))
-
 unfoldable pub parents_fault : Scenario → Option BadScenario
 parents_fault s =
-    first_of (unknown_at (codes "group") (codes "parent") (orphan_from root_groups 0 s.group))
-    (unknown_at (codes "system") (codes "group") (stray_from (root_groups ++ group_names s) 0 s.system))
+    first_of (
+    fault_at (codes "group") (codes "parent") UnknownName (orphan_from root_groups 0 s.group) ∷
+    fault_at (codes "system") (codes "group") UnknownName (stray_from (root_groups ++ group_names s) 0 s.system) ∷
+    [])
 
 -- ---- siblings
 
@@ -116,17 +121,19 @@ order_fault_from all child inner j (n ∷ ns) =
 
 abbrev pub order_fault : List Sibling → Sibling → List (List ℕ) → List (List ℕ) → Option BadScenario
 order_fault all child before after =
-    first_of (order_fault_from all child (codes "before") 0 before) (order_fault_from all child (codes "after") 0 after)
+    first_of (order_fault_from all child (codes "before") 0 before ∷ order_fault_from all child (codes "after") 0 after ∷ [])
 
 -- a test of each element of a list under a key, in order
 abbrev pub each_fault_from : {A : Type 0} → List ℕ → (A → Option BadScenario) → ℕ → List A → Option BadScenario
 each_fault_from key test i [] = None
-each_fault_from key test i (x ∷ xs) = first_of (option_map (at_element key i) (test x)) (each_fault_from key test (i + 1) xs)
+each_fault_from key test i (x ∷ xs) = first_of (option_map (at_element key i) (test x) ∷ each_fault_from key test (i + 1) xs ∷ [])
 
 unfoldable pub siblings_fault : Scenario → Option BadScenario
 siblings_fault s =
-    first_of (each_fault_from (codes "group") (λ g. order_fault (siblings_of s) (group_sibling g) g.before g.after) 0 s.group)
-    (each_fault_from (codes "system") (λ y. order_fault (siblings_of s) (system_sibling y) y.before y.after) 0 s.system)
+    first_of (
+    each_fault_from (codes "group") (λ g. order_fault (siblings_of s) (group_sibling g) g.before g.after) 0 s.group ∷
+    each_fault_from (codes "system") (λ y. order_fault (siblings_of s) (system_sibling y) y.before y.after) 0 s.system ∷
+    [])
 
 -- ---- spawns
 
@@ -135,23 +142,23 @@ abbrev pub sizes_of : List TypeInfo → SpawnEntry → List ℕ
 sizes_of registry p = map (λ part. column_size (type_at registry part.ty.0)) p.parts
 
 abbrev pub spawn_fault : List TypeInfo → SpawnEntry → Option BadScenario
-spawn_fault registry p = if capacity_of (sizes_of registry p) == 0 then Some (bad TooLarge) else None
+spawn_fault registry p = fault_if (capacity_of (sizes_of registry p) == 0) TooLarge
 
 -- the first spawn with which the rows so far are too many
 abbrev pub crowded_from : ℕ → ℕ → List SpawnEntry → Option BadScenario
 crowded_from made i [] = None
 crowded_from made i (p ∷ ps) =
-    if nat_lt 1048576 (made + p.count) then Some (at_element (codes "spawn") i (bad TooManyEntities))
+    if nat_lt MOST_ENTITIES (made + p.count) then Some (at_element (codes "spawn") i (bad TooManyEntities))
     else crowded_from (made + p.count) (i + 1) ps
 
 unfoldable pub spawns_fault : Scenario → Option BadScenario
-spawns_fault s = first_of (each_fault_from (codes "spawn") (spawn_fault s.registry) 0 s.spawn) (crowded_from 0 0 s.spawn)
+spawns_fault s = first_of (each_fault_from (codes "spawn") (spawn_fault s.registry) 0 s.spawn ∷ crowded_from 0 0 s.spawn ∷ [])
 
 -- ---- lookups
 
 -- the system looks up a type that it writes
 unfoldable pub lookup_fault : SystemEntry → Option BadScenario
-lookup_fault y = if meets (set_of (looked_up y)) (set_of (written y)) then Some (bad LookupOfWritten) else None
+lookup_fault y = fault_if (meets (set_of (looked_up_by y)) (set_of (written y))) LookupOfWritten
 
 unfoldable pub lookups_fault : Scenario → Option BadScenario
 lookups_fault s = each_fault_from (codes "system") lookup_fault 0 s.system
@@ -177,7 +184,7 @@ event_fault all earlier (Unload n) =
 abbrev pub event_fault_from : List EventEntry → List EventEntry → ℕ → List EventEntry → Option BadScenario
 event_fault_from all earlier i [] = None
 event_fault_from all earlier i (e ∷ es) =
-    first_of (option_map (at_element (codes "event") i) (event_fault all earlier e.act)) (event_fault_from all (e ∷ earlier) (i + 1) es)
+    first_of (option_map (at_element (codes "event") i) (event_fault all earlier e.act) ∷ event_fault_from all (e ∷ earlier) (i + 1) es ∷ [])
 
 unfoldable pub events_fault : Scenario → Option BadScenario
 events_fault s = event_fault_from s.event [] 0 s.event
@@ -186,4 +193,11 @@ events_fault s = event_fault_from s.event [] 0 s.event
 
 abbrev pub first_fault : Scenario → Option BadScenario
 first_fault s =
-    first_of (names_fault s) (first_of (parents_fault s) (first_of (siblings_fault s) (first_of (spawns_fault s) (first_of (lookups_fault s) (events_fault s)))))
+    first_of (
+    names_fault s ∷
+    parents_fault s ∷
+    siblings_fault s ∷
+    spawns_fault s ∷
+    lookups_fault s ∷
+    events_fault s ∷
+    [])

@@ -3,12 +3,12 @@ use Rattle.std.specs.Prelude.{ℕ, ◌≡◌, Bool, false, if◌then◌else◌, 
 use Rattle.std.specs.List.{list_any}
 use Rattle.std.specs.Option.{option_map_or}
 use Rattle.ent_types.specs.Types.{same_name}
-use Rattle.scenario_read.specs.declared.fault.Cause.TheVariants.{DuplicateName, UnknownName}
-use Rattle.scenario_read.specs.declared.fault.BadScenario.{BadScenario}
+use Rattle.scenario_record.specs.declared.fault.Cause.TheVariants.{DuplicateName, UnknownName}
+use Rattle.scenario_record.specs.declared.fault.BadScenario.{BadScenario}
 use Rattle.scenario_record.specs.declared.record.EventEntry.{EventEntry}
 use Rattle.scenario_record.specs.declared.record.EventAct.{EventAct}
 use Rattle.scenario_record.specs.declared.record.EventAct.TheVariants.{Operate, Load, Unload}
-use Rattle.scenario_read.specs.Faults.{bad, below_key}
+use Rattle.scenario_record.specs.Faults.{bad, below_key}
 use Rattle.scenario_check.specs.Checks.{label_of, is_labelled}
 
 -- the names are those of the loads among the events

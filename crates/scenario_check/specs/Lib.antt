@@ -1,7 +1,7 @@
+pub mod Found
 pub mod Touched
 pub mod Checks
 pub mod Planned
 pub mod Read
-pub mod Walks
 pub mod Labels
 pub mod Built

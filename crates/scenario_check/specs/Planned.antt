@@ -1,18 +1,18 @@
 -- The plan of a scenario that passes its checks, or its first fault.
-use Rattle.std.specs.Prelude.{ℕ, if◌then◌else◌, List, [], ◌∷◌, ◌++◌, length, map, Option, None, Some, Ok, Err}
+use Rattle.std.specs.Prelude.{ℕ, if◌then◌else◌, List, [], ◌∷◌, ◌++◌, length, map, Ok, Err}
 use Rattle.std.specs.List.{range_with_len}
 use Rattle.ent_types.specs.declared.point.Point.TheVariants.{BeginInitialization, EndInitialization, BeginSimulation, EndSimulation, BeginPresentation}
-use Rattle.scenario_read.specs.declared.fault.Cause.TheVariants.{NotBuilt}
-use Rattle.scenario_read.specs.declared.fault.BadScenario.{BadScenario}
+use Rattle.scenario_record.specs.declared.fault.Cause.TheVariants.{NotBuilt}
+use Rattle.scenario_record.specs.declared.plan.Plan.{Plan}
+use Rattle.scenario_record.specs.declared.plan.Step.{Step}
+use Rattle.scenario_record.specs.declared.plan.Step.TheVariants.{Events, Play, Run}
 use Rattle.scenario_record.specs.declared.record.Scenario.{Scenario}
-use Rattle.scenario_read.specs.Faults.{Reading, bad, whole_path}
-use Rattle.scenario_check.specs.declared.plan.Plan.{Plan}
-use Rattle.scenario_check.specs.declared.plan.Step.{Step}
-use Rattle.scenario_check.specs.declared.plan.Step.TheVariants.{Events, Play, Run}
+use Rattle.scenario_record.specs.Faults.{bad}
+use Rattle.scenario_record.specs.Readings.{Reading, unless, whole_path}
 use Rattle.scenario_check.specs.Touched.{access_of}
 use Rattle.scenario_check.specs.Checks.{first_fault}
 
--- The steps of a frame, where no key places a system: all are children of Simulation, in declared order.
+-- The steps of a frame, if no key places a system: all are children of Simulation, in declared order.
 abbrev pub steps_of : ℕ → List Step
 steps_of systems =
     Events ∷ Play BeginInitialization ∷ Play EndInitialization ∷ Play BeginSimulation ∷
@@ -25,9 +25,5 @@ plan_of s = record { steps = steps_of (length s.system); access = map (access_of
 abbrev pub planned : Scenario → Reading Plan
 planned s = if s.placed then Err (bad NotBuilt) else Ok (plan_of s)
 
-abbrev pub passed : Option BadScenario → Reading Plan → Reading Plan
-passed None plan = plan
-passed (Some f) plan = Err f
-
 unfoldable pub checked : Scenario → Reading Plan
-checked s = whole_path (passed (first_fault s) (planned s))
+checked s = whole_path (unless (first_fault s) (planned s))

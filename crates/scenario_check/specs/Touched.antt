@@ -1,138 +1,32 @@
--- The types that the texts of a system name.
-use Rattle.std.specs.Prelude.{ℕ, List, [], ◌∷◌, ◌++◌, map, filter, flat_map, fold, nat_lt, if◌then◌else◌}
+-- The types that a system touches.
+use Rattle.std.specs.Prelude.{ℕ, List, ◌++◌, map, filter, flat_map}
 use Rattle.ent_types.specs.declared.type_info.TypeInfo.{TypeInfo}
 use Rattle.ent_types.specs.Registries.{type_at}
-use Rattle.ent_types.specs.TypeSets.{with_type}
-use Rattle.expr_trees.specs.declared.tree.Expr.{Expr, fold-Expr}
-use Rattle.expr_trees.specs.declared.tree.Expr.TheOpen.{Expr-F}
-use Rattle.expr_trees.specs.declared.tree.RefExpr.{RefExpr}
-use Rattle.expr_trees.specs.declared.tree.RefExpr.TheVariants as refs
-use Rattle.expr_trees.specs.declared.tree.ValueExpr.{ValueExpr}
-use Rattle.expr_trees.specs.declared.tree.ValueExpr.TheVariants as values
-use Rattle.expr_trees.specs.declared.tree.PartExpr.{PartExpr}
-use Rattle.expr_trees.specs.declared.tree.CommandText.{CommandText}
-use Rattle.expr_trees.specs.declared.tree.CommandText.TheVariants.{Create, Destroy, Add, Set, SetShared, Remove, Enable, Disable, Instantiate}
-use Rattle.scenario_record.specs.declared.record.CommandEntry.{CommandEntry}
+use Rattle.scenario_record.specs.declared.plan.Access.{Access}
 use Rattle.scenario_record.specs.declared.record.SystemEntry.{SystemEntry}
-use Rattle.scenario_check.specs.declared.plan.Access.{Access}
+use Rattle.scenario_record.specs.Uses.{uses_of}
+use Rattle.scenario_check.specs.Found.{read_types, looked_up_types, set_of}
 
--- the set, and a type. Types have numbers below 256: a number that no type has is passed over.
-abbrev pub put_type : List ℕ → ℕ → List ℕ
-put_type set ty = if nat_lt ty 256 then with_type set ty else set
+-- the types that its texts read: those of own fields, of `on` and of `get`
+abbrev pub read_by : SystemEntry → List ℕ
+read_by y = flat_map read_types (uses_of y)
 
--- the set of the types in a list
-abbrev pub set_of : List ℕ → List ℕ
-set_of types = fold put_type [] types
-
--- ---- own fields and `on`
-
-abbrev pub own_in_ref : RefExpr → List ℕ
-own_in_ref refs.Null = []
-own_in_ref refs.Me = []
-own_in_ref (refs.Made k) = []
-own_in_ref (refs.Own ty i) = ty.0 ∷ []
-own_in_ref (refs.Entity e) = []
-
-abbrev pub own_step : Expr-F (List ℕ) → List ℕ
-own_step (Expr-F.Number z) = []
-own_step (Expr-F.Variable v) = []
-own_step (Expr-F.Own ty i) = ty.0 ∷ []
-own_step (Expr-F.Unary op a) = a
-own_step (Expr-F.Binary op a b) = a ++ b
-own_step (Expr-F.Pick c a b) = c ++ (a ++ b)
-own_step (Expr-F.Get r ty i) = own_in_ref r
-own_step (Expr-F.Alive r) = own_in_ref r
-own_step (Expr-F.Has r ty) = own_in_ref r
-own_step (Expr-F.Same r q) = own_in_ref r ++ own_in_ref q
-own_step (Expr-F.On ty) = ty.0 ∷ []
-
-abbrev pub own_in : Expr → List ℕ
-own_in = fold-Expr (List ℕ) own_step
-
--- ---- `get`
-
-abbrev pub looked_step : Expr-F (List ℕ) → List ℕ
-looked_step (Expr-F.Number z) = []
-looked_step (Expr-F.Variable v) = []
-looked_step (Expr-F.Own ty i) = []
-looked_step (Expr-F.Unary op a) = a
-looked_step (Expr-F.Binary op a b) = a ++ b
-looked_step (Expr-F.Pick c a b) = c ++ (a ++ b)
-looked_step (Expr-F.Get r ty i) = ty.0 ∷ []
-looked_step (Expr-F.Alive r) = []
-looked_step (Expr-F.Has r ty) = []
-looked_step (Expr-F.Same r q) = []
-looked_step (Expr-F.On ty) = []
-
-abbrev pub looked_in : Expr → List ℕ
-looked_in = fold-Expr (List ℕ) looked_step
-
--- ---- `has` and `on`
-
-abbrev pub tested_step : Expr-F (List ℕ) → List ℕ
-tested_step (Expr-F.Number z) = []
-tested_step (Expr-F.Variable v) = []
-tested_step (Expr-F.Own ty i) = []
-tested_step (Expr-F.Unary op a) = a
-tested_step (Expr-F.Binary op a b) = a ++ b
-tested_step (Expr-F.Pick c a b) = c ++ (a ++ b)
-tested_step (Expr-F.Get r ty i) = []
-tested_step (Expr-F.Alive r) = []
-tested_step (Expr-F.Has r ty) = ty.0 ∷ []
-tested_step (Expr-F.Same r q) = []
-tested_step (Expr-F.On ty) = ty.0 ∷ []
-
-abbrev pub tested_in : Expr → List ℕ
-tested_in = fold-Expr (List ℕ) tested_step
-
--- ---- all texts of a system: the same walk for each, which is told what an expression and a reference give
-
-module _ (in_expr : Expr → List ℕ) (in_ref : RefExpr → List ℕ) where
-  abbrev pub in_value : ValueExpr → List ℕ
-  in_value (values.Int e) = in_expr e
-  in_value (values.Ref r) = in_ref r
-
-  abbrev pub in_part : PartExpr → List ℕ
-  in_part p = flat_map in_value p.values
-
-  abbrev pub in_act : CommandText → List ℕ
-  in_act (Create name parts) = flat_map in_part parts
-  in_act (Destroy r) = in_ref r
-  in_act (Add r p) = in_ref r ++ in_part p
-  in_act (Set r p) = in_ref r ++ in_part p
-  in_act (SetShared r p) = in_ref r ++ in_part p
-  in_act (Remove r ty) = in_ref r
-  in_act (Enable r ty) = in_ref r
-  in_act (Disable r ty) = in_ref r
-  in_act (Instantiate name r) = in_ref r
-
-  abbrev pub in_command : CommandEntry → List ℕ
-  in_command c = in_expr c.when ++ (in_expr c.key ++ in_act c.act)
-
-  abbrev pub in_texts : SystemEntry → List ℕ
-  in_texts s =
-      flat_map (λ a. in_value a.value) s.set ++ (flat_map (λ w. in_expr w.value) s.enable ++ flat_map in_command s.command)
-
--- the types that the system looks up by `get`
-abbrev pub looked_up : SystemEntry → List ℕ
-looked_up s = in_texts looked_in (λ r. []) s
-
--- the types of the own row that its texts name
-abbrev pub own_types : SystemEntry → List ℕ
-own_types s = in_texts own_in own_in_ref s
+-- the types that it looks up by `get`
+abbrev pub looked_up_by : SystemEntry → List ℕ
+looked_up_by y = flat_map looked_up_types (uses_of y)
 
 -- the types that it writes
 abbrev pub written : SystemEntry → List ℕ
-written s = map (λ a. a.ty.0) s.set ++ map (λ w. w.ty.0) s.enable
+written y = map (λ a. a.ty.0) y.set ++ map (λ w. w.ty.0) y.enable
 
--- the types of its clauses that can be switched off
+-- the enableable types of its clauses
 abbrev pub named_types : List TypeInfo → SystemEntry → List ℕ
-named_types registry s =
-    filter (λ ty. (type_at registry ty).enableable) (s.all ++ (s.any ++ (s.none ++ (s.disabled ++ s.absent))))
+named_types registry y =
+    filter (λ ty. (type_at registry ty).enableable) (y.all ++ (y.any ++ (y.none ++ (y.disabled ++ y.absent))))
 
 abbrev pub access_of : List TypeInfo → SystemEntry → Access
-access_of registry s = record {
-  reads = set_of (own_types s ++ (looked_up s ++ s.changed));
-  writes = set_of (written s);
-  named = set_of (named_types registry s);
+access_of registry y = record {
+  reads = set_of (read_by y ++ y.changed);
+  writes = set_of (written y);
+  named = set_of (named_types registry y);
 }

@@ -1,28 +1,20 @@
 //! The types that a system touches.
 ghost use Rattle.std.specs.Prelude.{◌≡◌, ◌++◌, map, filter};
 ghost use Rattle.ent_types.specs.Registries.{type_at};
-ghost use Rattle.scenario_check.specs.Touched.{written, named_types, access_of, looked_up, own_types, set_of};
-ghost use Rattle.scenario_check.specs.Walks.{with_known};
+ghost use Rattle.scenario_check.specs.Checks.{lookup_fault, lookups_fault};
+ghost use Rattle.scenario_check.specs.Found.{with_types, set_of};
+ghost use Rattle.scenario_check.specs.Touched.{written, named_types, access_of};
+ghost use Rattle.scenario_record.specs.Readings.{Passes};
 
-use crate::plan::Access;
-use crate::touched::{Wanted, in_texts, put};
-use ent_types::{Registry, TypeId, TypeSet};
+use crate::each::{Test, each};
+use crate::uses::{by_texts, put};
+use ent_types::{Registry, TypeSet};
 use expr_trees::{Assign, Switch};
-use scenario_record::SystemEntry;
+use scenario_record::{Access, Cause, Scenario, ScenarioFault, SystemEntry, bad};
+use std::alloc::Global;
 
-/// Says whether a type can be switched off in a row; false where there is no such type.
-fn is_enableable(registry: &Registry, ty: TypeId) -> bool
-    ensures { result ≡ (type_at registry.now ty.0).enableable }
-{
-    if usize::from(ty.0) >= registry.len() {
-        return false;
-    }
-    registry.info(ty).enableable
-}
-
-#[tactic(auto, using(crate::proofs::WalkLemmas::walks))]
 fn with_assigned(assigns: &[Assign], before: TypeSet) -> TypeSet
-    ensures { result ≡ with_known before (map (λ a. a.ty.0) assigns.now) }
+    ensures { result ≡ with_types before (map (λ a. a.ty.0) assigns.now) }
 {
     let mut found = before;
     for assign in assigns {
@@ -31,9 +23,8 @@ fn with_assigned(assigns: &[Assign], before: TypeSet) -> TypeSet
     found
 }
 
-#[tactic(auto, using(crate::proofs::WalkLemmas::walks))]
 fn with_switched(switches: &[Switch], before: TypeSet) -> TypeSet
-    ensures { result ≡ with_known before (map (λ w. w.ty.0) switches.now) }
+    ensures { result ≡ with_types before (map (λ w. w.ty.0) switches.now) }
 {
     let mut found = before;
     for switch in switches {
@@ -42,26 +33,18 @@ fn with_switched(switches: &[Switch], before: TypeSet) -> TypeSet
     found
 }
 
-/// The types that a system writes.
-#[tactic(auto, using(crate::proofs::WalkLemmas::walks))]
-pub(crate) fn written(system: &SystemEntry) -> TypeSet
+/// Returns the types that a system writes.
+#[tactic(auto, using(crate::proofs::UseLemmas::walks))]
+fn written(system: &SystemEntry) -> TypeSet
     ensures { result ≡ set_of (written system.now) }
 {
     let found = with_assigned(system.set.as_slice(), TypeSet::empty());
     with_switched(system.enable.as_slice(), found)
 }
 
-/// The types that a system looks up.
-pub(crate) fn looked_up(system: &SystemEntry) -> TypeSet
-    ensures { result ≡ set_of (looked_up system.now) }
-{
-    in_texts(Wanted::Lookups, system, TypeSet::empty())
-}
-
-/// The types of both sets.
-#[tactic(auto, using(crate::proofs::WalkLemmas::walks))]
+/// Returns the types of both sets.
 fn with_set(types: &TypeSet, before: TypeSet) -> TypeSet
-    ensures { result ≡ with_known before types.now }
+    ensures { result ≡ with_types before types.now }
 {
     let mut found = before;
     for ty in types.iter() {
@@ -70,32 +53,21 @@ fn with_set(types: &TypeSet, before: TypeSet) -> TypeSet
     found
 }
 
-/// The set, and the enableable types of another set.
-#[tactic(auto, using(crate::proofs::WalkLemmas::walks))]
+/// Returns the set, with the enableable types of another set.
 fn with_enableable(registry: &Registry, types: &TypeSet, before: TypeSet) -> TypeSet
-    ensures { result ≡ with_known before (filter (λ ty. (type_at registry.now ty).enableable) types.now) }
+    ensures { result ≡ with_types before (filter (λ ty. (type_at registry.now ty).enableable) types.now) }
 {
     let mut found = before;
     for ty in types.iter() {
-        if is_enableable(registry, ty) {
+        if registry.is_enableable(ty) {
             found = put(found, ty);
         }
     }
     found
 }
 
-/// The types that a system reads: those of its texts, and of its change filter.
-#[tactic(auto, using(crate::proofs::WalkLemmas::walks))]
-fn read_by(system: &SystemEntry) -> TypeSet
-    ensures { result ≡ set_of (own_types system.now ++ (looked_up system.now ++ system.now.changed)) }
-{
-    let found = in_texts(Wanted::Own, system, TypeSet::empty());
-    let found = in_texts(Wanted::Lookups, system, found);
-    with_set(&system.changed, found)
-}
-
-/// The enableable types of the clauses of a system.
-#[tactic(auto, using(crate::proofs::WalkLemmas::names))]
+/// Returns the enableable types of the clauses of a system.
+#[tactic(auto, using(crate::proofs::UseLemmas::names))]
 fn named_by(registry: &Registry, system: &SystemEntry) -> TypeSet
     ensures { result ≡ set_of (named_types registry.now system.now) }
 {
@@ -106,13 +78,40 @@ fn named_by(registry: &Registry, system: &SystemEntry) -> TypeSet
     with_enableable(registry, &system.absent, found)
 }
 
-/// The types that a system touches.
+/// Returns the types that a system touches.
+#[tactic(auto, using(crate::proofs::UseLemmas::reads))]
 pub(crate) fn access_of(registry: &Registry, system: &SystemEntry) -> Access
     ensures { result ≡ access_of registry.now system.now }
 {
     Access {
-        reads: read_by(system),
+        reads: with_set(&system.changed, by_texts(system).read),
         writes: written(system),
         named: named_by(registry, system),
     }
+}
+
+/// A system looks up no type that it writes.
+#[derive(Drop)]
+struct LooksElsewhere;
+
+impl Test for LooksElsewhere {
+    type Item = SystemEntry;
+
+    ghost fault = { λ _ y. lookup_fault y };
+
+    #[tactic(auto, unfolding(crate::specs::Checks::lookup_fault), using(crate::proofs::UseLemmas::looks))]
+    fn test(&self, alloc: Global, system: &SystemEntry) -> Result<(), ScenarioFault> {
+        if by_texts(system).looked_up.meets(&written(system)) {
+            return Err(bad(alloc, Cause::LookupOfWritten));
+        }
+        Ok(())
+    }
+}
+
+/// Checks that no system looks up a type that it writes.
+#[tactic(auto, unfolding(crate::specs::Checks::lookups_fault))]
+pub(crate) fn lookups(alloc: Global, scenario: &Scenario) -> Result<(), ScenarioFault>
+    ensures { Passes (lookups_fault scenario.now) result }
+{
+    each(alloc, "system", &LooksElsewhere, scenario.system.as_slice())
 }

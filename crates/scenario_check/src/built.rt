@@ -3,13 +3,10 @@ ghost use Rattle.std.specs.Prelude.{◌≡◌, map};
 ghost use Rattle.std.specs.List.{list_all};
 ghost use Rattle.scenario_check.specs.Built.{is_built_kind, are_built_types, is_built_in_tag, names_built_in, tested_by, is_built_spawn, is_built_system, is_built};
 
-use crate::touched::{Wanted, in_assigns};
-use ent_types::{Kind, Registry, TypeId, TypeInfo, TypeSet};
+use crate::uses::by_assigns;
+use ent_types::{BUILT_IN_TYPES, Kind, Registry, TypeId, TypeInfo, TypeSet};
 use expr_trees::PartExpr;
 use scenario_record::{Scenario, SpawnEntry, SystemEntry};
-
-/// The number of built-in types, which come before the declared ones.
-const BUILT_IN: usize = 3;
 
 /// The number of built-in tags, `Disabled` and `Prefab`, which come before all other types.
 const BUILT_IN_TAGS: u16 = 2;
@@ -22,6 +19,7 @@ fn is_built_kind(kind: Kind) -> bool
         Kind::Tag => true,
         Kind::Shared => false,
         Kind::Cleanup => false,
+        Kind::Buffer => false,
     }
 }
 
@@ -31,13 +29,13 @@ fn are_built_kinds(types: &[TypeInfo]) -> bool
     types.iter().all(|info| is_built_kind(info.kind))
 }
 
-/// Says whether each declared type is of a kind that is run.
+/// `true` if each declared type is of a kind that is run.
 fn are_built_types(registry: &Registry) -> bool
     ensures { result ≡ are_built_types registry.now }
 {
-    let are_there = registry.len() >= BUILT_IN;
+    let are_there = registry.len() >= BUILT_IN_TYPES;
     prove!(are_there);
-    are_built_kinds(&registry.types()[BUILT_IN..])
+    are_built_kinds(&registry.types()[BUILT_IN_TYPES..])
 }
 
 fn is_built_in_tag(ty: TypeId) -> bool
@@ -46,15 +44,15 @@ fn is_built_in_tag(ty: TypeId) -> bool
     ty.0 < BUILT_IN_TAGS
 }
 
-/// Says whether a set has a built-in tag.
+/// `true` if a set has a built-in tag.
 #[tactic(auto, using(crate::proofs::BuiltLemmas::has_tags))]
 fn has_built_in(types: &TypeSet) -> bool
     ensures { result ≡ names_built_in types.now }
 {
-    types.has(TypeId(0)) || types.has(TypeId(1))
+    types.has(TypeId::DISABLED) || types.has(TypeId::PREFAB)
 }
 
-/// Says whether a built-in tag is among the types of some parts.
+/// `true` if a built-in tag is among the types of some parts.
 fn parts_name_built_in(parts: &[PartExpr]) -> bool
     ensures { result ≡ names_built_in (map (λ part. part.ty.0) parts.now) }
 {
@@ -66,13 +64,12 @@ fn parts_name_built_in(parts: &[PartExpr]) -> bool
     false
 }
 
-/// Says whether the assigns of a system name a built-in tag by `has` or `on`.
-#[tactic(auto, using(crate::proofs::BuiltLemmas::in_the_set))]
+/// `true` if the assignments of a system name a built-in tag by `has` or `on`.
+#[tactic(auto, using(crate::proofs::BuiltLemmas::tags))]
 fn tests_built_in(system: &SystemEntry) -> bool
     ensures { result ≡ names_built_in (tested_by system.now) }
 {
-    let tested = in_assigns(Wanted::Tested, system.set.as_slice(), TypeSet::empty());
-    has_built_in(&tested)
+    has_built_in(&by_assigns(system).tested)
 }
 
 fn is_built_spawn(spawn: &SpawnEntry) -> bool
@@ -99,12 +96,11 @@ fn are_built_systems(systems: &[SystemEntry]) -> bool
     systems.iter().all(|system| is_built_system(system))
 }
 
-/// Says whether a scenario is of a form that is run.
+/// `true` if a scenario is of a form that is run.
 ///
-/// It is, where no key is there of those that aren't run yet, no declared type is shared or a cleanup type, there is no
-/// event, and the built-in tags `Disabled` and `Prefab` are in no spawn, in no system's `all`, and in no `has` or `on` of
-/// a system's `set`. A scenario of another form is `NotBuilt` when it is run, after all other faults. As more forms are
-/// run this refuses fewer, and in the end it goes away.
+/// Such a scenario has no key that isn't run yet, no shared or cleanup type, and no event. The built-in tags `Disabled`
+/// and `Prefab` are in no spawn, in no system's `all`, and in no `has` or `on` of a system's `set`. A scenario of another
+/// form is `NotBuilt` when it is run, after all other faults. This call goes away once every form is run.
 #[tactic(auto, unfolding(crate::specs::Built::is_built))]
 pub fn is_built(scenario: &Scenario) -> bool
     ensures { result ≡ is_built scenario.now }

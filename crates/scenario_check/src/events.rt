@@ -1,20 +1,20 @@
-//! The names of loads: each is one of a kind, and only such a name is unloaded.
+//! The names of loads, which are distinct, and the loads that are unloaded, which exist.
 ghost use Rattle.std.specs.Prelude.{◌≡◌, ◌||◌, ℕ, List, [], codes, IfOk};
 ghost use Rattle.std.specs.List.{list_any};
 ghost use Rattle.ent_types.specs.Types.{same_name};
-ghost use Rattle.scenario_read.specs.declared.fault.ScenarioFault.TheVariants.{Bad};
-ghost use Rattle.scenario_read.specs.Faults.{IsMoved, Passes, bad, below_key};
+ghost use Rattle.scenario_record.specs.declared.fault.ScenarioFault.TheVariants.{Bad};
+ghost use Rattle.scenario_record.specs.Faults.{IsMoved, bad, below_key};
+ghost use Rattle.scenario_record.specs.Readings.{Passes};
 ghost use Rattle.scenario_check.specs.Checks.{label_of, event_fault_from, events_fault};
 ghost use Rattle.scenario_check.specs.Labels.{HasLabels, has_label, fault_by};
 
-use crate::places::at_element;
+use crate::each::at_element;
 use ent_types::{Memory, Name};
 use indexmap::IndexSet;
-use scenario_read::{Cause, ScenarioFault, bad, below_key};
-use scenario_record::{EventAct, EventEntry, Scenario};
+use scenario_record::{Cause, EventAct, EventEntry, Scenario, ScenarioFault, bad, below_key};
 use std::alloc::Global;
 
-/// The name of the load that an event is.
+/// Returns the name of a load; `None` if the event is no load.
 fn label_of(act: &EventAct) -> Option<Name>
     ensures { result ≡ label_of act.now }
 {
@@ -25,7 +25,7 @@ fn label_of(act: &EventAct) -> Option<Name>
     }
 }
 
-/// Puts the name of the load in that an event is.
+/// Adds the name of a load, if the event is one.
 fn add_label(labels: &mut IndexSet<Name>, act: &EventAct) -> Result<(), Memory>
     ensures { IfOk result (λ _. (n : List ℕ) → list_any (same_name n) labels.new.keys ≡ (has_label n act.now || list_any (same_name n) labels.old.keys)) }
 {
@@ -38,7 +38,7 @@ fn add_label(labels: &mut IndexSet<Name>, act: &EventAct) -> Result<(), Memory>
     }
 }
 
-/// The names of the loads.
+/// Returns the names of the loads.
 fn labels_of(alloc: Global, events: &[EventEntry]) -> Result<IndexSet<Name>, Memory>
     ensures { IfOk result (λ labels. HasLabels labels.keys events.now) }
 {
@@ -49,7 +49,7 @@ fn labels_of(alloc: Global, events: &[EventEntry]) -> Result<IndexSet<Name>, Mem
     Ok(labels)
 }
 
-/// The fault of the value under a key of an event.
+/// Returns the fault of the value under a key of an event.
 fn event_fault(alloc: Global, key: &str, cause: Cause) -> ScenarioFault
     ensures { IsMoved (below_key key.now) (Bad (bad cause)) result }
 {
@@ -57,7 +57,7 @@ fn event_fault(alloc: Global, key: &str, cause: Cause) -> ScenarioFault
     below_key(alloc, key, fault)
 }
 
-/// Passes where a load has a name of its own and the name that is unloaded is that of a load.
+/// Checks that a load has a name that no earlier one has, and that an unload names a load.
 fn fits(
     alloc: Global,
     all: &IndexSet<Name>,
@@ -83,7 +83,7 @@ fn fits(
     }
 }
 
-/// Passes where each load has a name of its own, and each name that is unloaded is that of a load.
+/// Checks that the names of loads are distinct, and that each unload names a load.
 fn each_fits(
     alloc: Global,
     all: &IndexSet<Name>,
@@ -102,7 +102,7 @@ fn each_fits(
     Ok(())
 }
 
-/// Passes where each load has a name of its own, and each name that is unloaded is that of a load.
+/// Checks that the names of loads are distinct, and that each unload names a load.
 #[tactic(auto, unfolding(crate::specs::Checks::events_fault))]
 pub(crate) fn events(alloc: Global, scenario: &Scenario) -> Result<(), ScenarioFault>
     ensures { Passes (events_fault scenario.now) result }

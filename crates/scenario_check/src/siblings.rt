@@ -1,13 +1,12 @@
 //! The children of groups, and the names by which they order themselves.
-ghost use Rattle.std.specs.Prelude.{◌≡◌, codes, find, map, ◌++◌, IfOk};
+ghost use Rattle.std.specs.Prelude.{◌≡◌, find, map, ◌++◌, IfOk};
 ghost use Rattle.ent_types.specs.Types.{same_name};
-ghost use Rattle.scenario_read.specs.Faults.{Passes};
-ghost use Rattle.scenario_check.specs.Checks.{group_sibling, system_sibling, siblings_of, cause_between, cause_of_name, order_fault_from, order_fault, each_fault_from, siblings_fault};
+ghost use Rattle.scenario_record.specs.Readings.{Passes};
+ghost use Rattle.scenario_check.specs.Checks.{group_sibling, system_sibling, siblings_of, cause_between, order_fault_from, order_fault, siblings_fault};
 
-use crate::places::at_element;
+use crate::each::{Test, at_element, each};
 use ent_types::{Memory, Name};
-use scenario_read::{Cause, ScenarioFault, bad};
-use scenario_record::{GroupEntry, Scenario, SystemEntry};
+use scenario_record::{Cause, GroupEntry, Scenario, ScenarioFault, SystemEntry, bad};
 use std::alloc::Global;
 
 /// A child of a group: a group or a system.
@@ -55,7 +54,7 @@ fn push_systems(children: &mut Vec<Sibling>, systems: &[SystemEntry]) -> Result<
     Ok(())
 }
 
-/// The children of all groups: the groups, then the systems.
+/// Returns the children of all groups: the groups, then the systems.
 fn siblings_of(alloc: Global, scenario: &Scenario) -> Result<Vec<Sibling>, Memory>
     ensures { IfOk result (λ all. all.items ≡ siblings_of scenario.now) }
 {
@@ -65,7 +64,7 @@ fn siblings_of(alloc: Global, scenario: &Scenario) -> Result<Vec<Sibling>, Memor
     Ok(children)
 }
 
-/// The first child with this name.
+/// Returns the first child with this name.
 fn child_named(all: &[Sibling], name: &Name) -> Option<Sibling>
     ensures { result ≡ find (λ other. same_name name.now other.name) all.now }
 {
@@ -77,7 +76,7 @@ fn child_named(all: &[Sibling], name: &Name) -> Option<Sibling>
     None
 }
 
-/// What is wrong with a child's ordering by another one: it is of another group, or the child itself.
+/// Returns what is wrong if a child orders itself by another one: that is of another group, or the child itself.
 fn cause_between(child: &Sibling, other: Option<Sibling>) -> Option<Cause>
     ensures { result ≡ cause_between child.now other }
 {
@@ -93,7 +92,7 @@ fn cause_between(child: &Sibling, other: Option<Sibling>) -> Option<Cause>
     }
 }
 
-/// Passes where each of the names under a key is that of another child of the group.
+/// Checks that each of the names under a key is that of another child of the group.
 fn orders_by(
     alloc: Global,
     all: &[Sibling],
@@ -111,7 +110,7 @@ fn orders_by(
     Ok(())
 }
 
-/// Passes where a child orders itself by its siblings alone.
+/// Checks that a child orders itself by its siblings alone.
 fn order(
     alloc: Global,
     all: &[Sibling],
@@ -125,64 +124,61 @@ fn order(
     orders_by(alloc, all, child, "after", after)
 }
 
-fn group_order(alloc: Global, all: &[Sibling], group: &GroupEntry) -> Result<(), ScenarioFault>
-    ensures { Passes (order_fault all.now (group_sibling group.now) group.now.before group.now.after) result }
-{
-    let child = group_sibling(group);
-    order(
-        alloc,
-        all,
-        &child,
-        group.before.as_slice(),
-        group.after.as_slice(),
-    )
+/// The order of a group among its siblings.
+#[derive(Drop)]
+struct GroupOrder<'a> {
+    /// The children of all groups.
+    all: &'a [Sibling],
 }
 
-fn system_order(alloc: Global, all: &[Sibling], system: &SystemEntry) -> Result<(), ScenarioFault>
-    ensures { Passes (order_fault all.now (system_sibling system.now) system.now.before system.now.after) result }
-{
-    let child = system_sibling(system);
-    order(
-        alloc,
-        all,
-        &child,
-        system.before.as_slice(),
-        system.after.as_slice(),
-    )
-}
+impl<'a> Test for GroupOrder<'a> {
+    type Item = GroupEntry;
 
-fn groups_order(alloc: Global, all: &[Sibling], groups: &[GroupEntry]) -> Result<(), ScenarioFault>
-    ensures { Passes (each_fault_from (codes "group") (λ g. order_fault all.now (group_sibling g) g.before g.after) 0 groups.now) result }
-{
-    for (i, group) in groups.iter().enumerate() {
-        if let Err(fault) = group_order(alloc, all, group) {
-            return Err(at_element(alloc, "group", i, fault));
-        }
+    ghost fault = { λ it g. order_fault it.all.now (group_sibling g) g.before g.after };
+
+    fn test(&self, alloc: Global, group: &GroupEntry) -> Result<(), ScenarioFault> {
+        let child = group_sibling(group);
+        let (before, after) = (group.before.as_slice(), group.after.as_slice());
+        order(alloc, self.all, &child, before, after)
     }
-    Ok(())
 }
 
-fn systems_order(
-    alloc: Global,
-    all: &[Sibling],
-    systems: &[SystemEntry],
-) -> Result<(), ScenarioFault>
-    ensures { Passes (each_fault_from (codes "system") (λ y. order_fault all.now (system_sibling y) y.before y.after) 0 systems.now) result }
-{
-    for (i, system) in systems.iter().enumerate() {
-        if let Err(fault) = system_order(alloc, all, system) {
-            return Err(at_element(alloc, "system", i, fault));
-        }
+/// The order of a system among its siblings.
+#[derive(Drop)]
+struct SystemOrder<'a> {
+    /// The children of all groups.
+    all: &'a [Sibling],
+}
+
+impl<'a> Test for SystemOrder<'a> {
+    type Item = SystemEntry;
+
+    ghost fault = { λ it y. order_fault it.all.now (system_sibling y) y.before y.after };
+
+    fn test(&self, alloc: Global, system: &SystemEntry) -> Result<(), ScenarioFault> {
+        let child = system_sibling(system);
+        let (before, after) = (system.before.as_slice(), system.after.as_slice());
+        order(alloc, self.all, &child, before, after)
     }
-    Ok(())
 }
 
-/// Passes where each child orders itself by its siblings alone.
+/// Checks that each child orders itself by its siblings alone.
 #[tactic(auto, unfolding(crate::specs::Checks::siblings_fault))]
 pub(crate) fn siblings(alloc: Global, scenario: &Scenario) -> Result<(), ScenarioFault>
     ensures { Passes (siblings_fault scenario.now) result }
 {
     let all = siblings_of(alloc, scenario)?;
-    groups_order(alloc, all.as_slice(), scenario.group.as_slice())?;
-    systems_order(alloc, all.as_slice(), scenario.system.as_slice())
+    let all = all.as_slice();
+    each(
+        alloc,
+        "group",
+        &GroupOrder { all },
+        scenario.group.as_slice(),
+    )?;
+    each(
+        alloc,
+        "system",
+        &SystemOrder { all },
+        scenario.system.as_slice(),
+    )
 }

@@ -1,16 +1,16 @@
-//! What is made before the first frame: each row fits into a block, and all rows can be alive together.
-ghost use Rattle.std.specs.Prelude.{◌≡◌, ◌≤◌, nat_lt, map, codes};
+//! The rows that spawns make: each fits into a block, and all can be alive together.
+ghost use Rattle.std.specs.Prelude.{◌≡◌, ◌≤◌, nat_lt, map};
 ghost use Rattle.ent_types.specs.Registries.{type_at};
 ghost use Rattle.ent_types.specs.Types.{column_size};
 ghost use Rattle.chunk_layout.specs.Capacity.{column_bytes, block_bytes};
-ghost use Rattle.scenario_read.specs.Faults.{Passes};
-ghost use Rattle.scenario_check.specs.Checks.{each_fault_from, spawn_fault, crowded_from, spawns_fault};
+ghost use Rattle.scenario_record.specs.Readings.{Passes};
+ghost use Rattle.scenario_check.specs.Checks.{spawn_fault, crowded_from, spawns_fault};
 
-use crate::places::at_element;
-use ent_types::{Registry, TypeId};
+use crate::each::{Test, at_element, each};
+use ent_types::Registry;
+use ent_types::limits::{MOST_COLUMN_BYTES, MOST_ENTITIES};
 use expr_trees::PartExpr;
-use scenario_read::{Cause, ScenarioFault, bad};
-use scenario_record::{Scenario, SpawnEntry};
+use scenario_record::{Cause, Scenario, ScenarioFault, SpawnEntry, bad};
 use std::alloc::Global;
 
 /// The bytes of the column of ids, for one row.
@@ -19,38 +19,23 @@ const ID_BYTES: u32 = 64;
 /// The bytes of a block beside its header.
 const COLUMN_ROOM: u32 = 16_320;
 
-/// The greatest number of entities that can be alive together.
-const MOST_ENTITIES: u32 = 1_048_576;
-
-/// The bytes that a row takes in the column of a type; 0 where there is no such type.
-#[tactic(auto, using(crate::proofs::TypeLemmas::sizes))]
-fn column_size(registry: &Registry, ty: TypeId) -> u32
-    ensures value { result ≡ column_size (type_at registry.now ty.0) }
-    ensures most { result ≤ 512 }
-{
-    if usize::from(ty.0) >= registry.len() {
-        return 0;
-    }
-    registry.info(ty).column_size()
-}
-
-/// The bytes of a column of one row: a multiple of 64.
+/// Returns the bytes of a column of one row: a multiple of 64.
 fn column_bytes(size: u32) -> u32
-    requires { size ≤ 512 }
+    requires { size ≤ MOST_COLUMN_BYTES }
     ensures value { result ≡ column_bytes 1 size }
-    ensures most { result ≤ 512 }
+    ensures most { result ≤ MOST_COLUMN_BYTES }
 {
     size.next_multiple_of(64)
 }
 
-/// Says whether the columns of one row, with the column of its id, take more bytes than a block has for them.
+/// `true` if the columns of one row, with the column of its id, take more bytes than a block has for them.
 #[tactic(auto, using(crate::proofs::RowLemmas::sums))]
 fn is_too_large(registry: &Registry, parts: &[PartExpr]) -> bool
     ensures { result ≡ nat_lt 16320 (block_bytes (map (λ part. column_size (type_at registry.now part.ty.0)) parts.now) 1) }
 {
     let mut bytes = ID_BYTES;
     for part in parts {
-        bytes += column_bytes(column_size(registry, part.ty));
+        bytes += column_bytes(registry.column_size(part.ty));
         if bytes > COLUMN_ROOM {
             return true;
         }
@@ -58,30 +43,28 @@ fn is_too_large(registry: &Registry, parts: &[PartExpr]) -> bool
     false
 }
 
-/// Passes where a row of a spawn fits into a block.
-#[tactic(auto, using(crate::proofs::RowLemmas::rows))]
-fn fits(alloc: Global, registry: &Registry, spawn: &SpawnEntry) -> Result<(), ScenarioFault>
-    ensures { Passes (spawn_fault registry.now spawn.now) result }
-{
-    if is_too_large(registry, spawn.parts.as_slice()) {
-        return Err(bad(alloc, Cause::TooLarge));
-    }
-    Ok(())
+/// Each row of a spawn fits into a block.
+#[derive(Drop)]
+struct FitsBlock<'a> {
+    /// The types.
+    registry: &'a Registry,
 }
 
-/// Passes where a row of each spawn fits into a block.
-fn each_fits(alloc: Global, registry: &Registry, spawns: &[SpawnEntry]) -> Result<(), ScenarioFault>
-    ensures { Passes (each_fault_from (codes "spawn") (spawn_fault registry.now) 0 spawns.now) result }
-{
-    for (i, spawn) in spawns.iter().enumerate() {
-        if let Err(fault) = fits(alloc, registry, spawn) {
-            return Err(at_element(alloc, "spawn", i, fault));
+impl<'a> Test for FitsBlock<'a> {
+    type Item = SpawnEntry;
+
+    ghost fault = { λ it p. spawn_fault it.registry.now p };
+
+    #[tactic(auto, using(crate::proofs::RowLemmas::rows))]
+    fn test(&self, alloc: Global, spawn: &SpawnEntry) -> Result<(), ScenarioFault> {
+        if is_too_large(self.registry, spawn.parts.as_slice()) {
+            return Err(bad(alloc, Cause::TooLarge));
         }
+        Ok(())
     }
-    Ok(())
 }
 
-/// Passes where all rows can be alive together.
+/// Checks that all rows can be alive together.
 fn all_fit(alloc: Global, spawns: &[SpawnEntry]) -> Result<(), ScenarioFault>
     ensures { Passes (crowded_from 0 0 spawns.now) result }
 {
@@ -96,12 +79,15 @@ fn all_fit(alloc: Global, spawns: &[SpawnEntry]) -> Result<(), ScenarioFault>
     Ok(())
 }
 
-/// Passes where a row of each spawn fits into a block and all rows can be alive together.
+/// Checks that a row of each spawn fits into a block, then that all rows can be alive together.
 #[tactic(auto, unfolding(crate::specs::Checks::spawns_fault))]
 pub(crate) fn spawns(alloc: Global, scenario: &Scenario) -> Result<(), ScenarioFault>
     ensures { Passes (spawns_fault scenario.now) result }
 {
     let spawns = scenario.spawn.as_slice();
-    each_fits(alloc, &scenario.registry, spawns)?;
+    let fits = FitsBlock {
+        registry: &scenario.registry,
+    };
+    each(alloc, "spawn", &fits, spawns)?;
     all_fit(alloc, spawns)
 }

@@ -1,6 +1,7 @@
 -- The tables of a system's commands: `buffer`, `when`, `key`, `do`.
 use Rattle.std.specs.Prelude.{ℕ, pos, ◌+◌, Bool, ◌==◌, if◌then◌else◌, List, [], ◌∷◌, ◌++◌, codes, Option, None, Some, Ok}
-use Rattle.toml.specs.Data.{Data, Items, no_items, item, Members}
+use Rattle.toml.specs.Data.{Data}
+use Rattle.ent_types.specs.declared.limits.TheConstants.{MOST_COMMANDS}
 use Rattle.ent_types.specs.declared.point.Point.{Point}
 use Rattle.ent_types.specs.declared.point.Point.TheVariants.{BeginInitialization, EndInitialization, BeginSimulation, EndSimulation, BeginPresentation}
 use Rattle.ent_types.specs.declared.type_info.TypeInfo.{TypeInfo}
@@ -10,10 +11,10 @@ use Rattle.expr_trees.specs.declared.tree.Expr.TheVariants.{Number, Variable}
 use Rattle.expr_trees.specs.declared.tree.Variable.TheVariants.{Chunk}
 use Rattle.expr_trees.specs.declared.tree.CommandText.{CommandText}
 use Rattle.expr_trees.specs.declared.tree.CommandText.TheVariants.{Create, Destroy, Add, Set, SetShared, Remove, Enable, Disable, Instantiate}
-use Rattle.scenario_read.specs.declared.fault.Cause.TheVariants.{BadWord}
+use Rattle.scenario_record.specs.declared.fault.Cause.TheVariants.{BadWord}
 use Rattle.scenario_record.specs.declared.record.CommandEntry.{CommandEntry}
-use Rattle.scenario_read.specs.Faults.{Reading, at_place, and_then, changed, unless, or_fault}
-use Rattle.scenario_read.specs.ReadKeys.{unknown_key, required, optional, text, list_up_to, members}
+use Rattle.scenario_record.specs.Readings.{Reading, ◌>>=◌, or_fault}
+use Rattle.scenario_read.specs.ReadKeys.{known_table, required, optional, text, list_up_to, each_over}
 use Rattle.scenario_read.specs.ReadTexts.{system_expr, system_command}
 
 -- ---- `buffer`
@@ -28,7 +29,7 @@ point_named s =
     else None
 
 abbrev pub point : Data → Reading Point
-point d = and_then (λ s. or_fault BadWord (point_named s)) (text d)
+point d = text d >>= λ s. or_fault BadWord (point_named s)
 
 -- ---- the names that earlier commands make
 
@@ -65,30 +66,20 @@ made_from i buffer (c ∷ cs) = with_made i (same_point c.buffer buffer) (name_m
 
 -- ---- the table
 
-abbrev pub command_keys : List TypeInfo → List ℕ → List CommandEntry → Members → Reading CommandEntry
-command_keys registry bound earlier ms =
-    and_then (λ buffer.
-    and_then (λ when.
-    and_then (λ key.
-    changed (λ act. record { buffer = buffer; when = when; key = key; act = act })
-    (required (codes "do") (system_command registry bound (made_from 0 buffer earlier)) ms))
-    (optional (codes "key") (Variable Chunk) (system_expr registry bound) ms))
-    (optional (codes "when") (Number (pos 1)) (system_expr registry bound) ms))
-    (optional (codes "buffer") EndSimulation point ms)
-
-unfoldable pub command_table : List TypeInfo → List ℕ → List CommandEntry → Members → Reading CommandEntry
-command_table registry bound earlier ms =
-    unless (unknown_key (codes "buffer" ∷ codes "when" ∷ codes "key" ∷ codes "do" ∷ []) ms) (command_keys registry bound earlier ms)
+unfoldable pub command : List TypeInfo → List ℕ → List CommandEntry → Data → Reading CommandEntry
+command registry bound earlier d =
+    known_table (codes "buffer" ∷ codes "when" ∷ codes "key" ∷ codes "do" ∷ []) d >>= λ ms.
+    optional (codes "buffer") EndSimulation point ms >>= λ buffer.
+    optional (codes "when") (Number (pos 1)) (system_expr registry bound) ms >>= λ when.
+    optional (codes "key") (Variable Chunk) (system_expr registry bound) ms >>= λ key.
+    required (codes "do") (system_command registry bound (made_from 0 buffer earlier)) ms >>= λ act.
+    Ok (record { buffer = buffer; when = when; key = key; act = act })
 
 -- ---- the list
 
 -- the commands with those before them
-abbrev pub commands_from : List TypeInfo → List ℕ → List CommandEntry → ℕ → Items → Reading (List CommandEntry)
-commands_from registry bound earlier i no_items = Ok earlier
-commands_from registry bound earlier i (item d ds) =
-    and_then (λ c. commands_from registry bound (earlier ++ c ∷ []) (i + 1) ds)
-    (at_place i (and_then (command_table registry bound earlier) (members d)))
+abbrev pub one_more_command : List TypeInfo → List ℕ → List CommandEntry → Data → Reading (List CommandEntry)
+one_more_command registry bound earlier d = command registry bound earlier d >>= λ c. Ok (earlier ++ c ∷ [])
 
--- at most 16 commands
 abbrev pub command_list : List TypeInfo → List ℕ → Data → Reading (List CommandEntry)
-command_list registry bound d = and_then (commands_from registry bound [] 0) (list_up_to 16 d)
+command_list registry bound d = list_up_to MOST_COMMANDS d >>= each_over (one_more_command registry bound) [] 0

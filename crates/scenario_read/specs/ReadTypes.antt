@@ -1,19 +1,21 @@
 -- The table of a type: `name`, `kind`, `fields`, `enableable`.
-use Rattle.std.specs.Prelude.{ℕ, ◌+◌, ◌-◌, false, not, if◌then◌else◌, List, [], ◌∷◌, ◌++◌, length, take, drop, codes, Option, None, Some, is_some, option_map, Ok}
+use Rattle.std.specs.Prelude.{ℕ, ◌-◌, false, not, if◌then◌else◌, List, [], ◌∷◌, ◌++◌, length, take, drop, codes, Option, None, Some, is_some, option_map, Ok}
 use Rattle.std.specs.List.{list_any}
-use Rattle.toml.specs.Data.{Data, Items, no_items, item, Members}
+use Rattle.toml.specs.Data.{Data, Members}
+use Rattle.ent_types.specs.declared.limits.TheConstants.{MOST_FIELDS, MOST_TYPES}
 use Rattle.ent_types.specs.declared.kinds.Kind.{Kind}
 use Rattle.ent_types.specs.declared.kinds.Kind.TheVariants.{Plain, Tag, Shared, Cleanup}
 use Rattle.ent_types.specs.declared.kinds.FieldKind.{FieldKind}
 use Rattle.ent_types.specs.declared.kinds.FieldKind.TheVariants.{I32, I64, Ref}
 use Rattle.ent_types.specs.declared.type_info.FieldInfo.{FieldInfo}
 use Rattle.ent_types.specs.declared.type_info.TypeInfo.{TypeInfo}
+use Rattle.ent_types.specs.declared.entity.TheConstants.{BUILT_IN_TYPES}
 use Rattle.ent_types.specs.Names.{name_of}
 use Rattle.ent_types.specs.Types.{same_name, is_lawful_type}
 use Rattle.ent_types.specs.Registries.{type_named, built_in_types}
-use Rattle.scenario_read.specs.declared.fault.Cause.TheVariants.{BadWord, BadShape, DuplicateName}
-use Rattle.scenario_read.specs.Faults.{Reading, under, at_place, and_then, changed, unless, or_fault, fault_if}
-use Rattle.scenario_read.specs.ReadKeys.{unknown_key, required, optional, truth, text, name, list_up_to, members}
+use Rattle.scenario_record.specs.declared.fault.Cause.TheVariants.{BadWord, BadShape, DuplicateName}
+use Rattle.scenario_record.specs.Readings.{Reading, under, ◌>>=◌, unless, or_fault, fault_if}
+use Rattle.scenario_read.specs.ReadKeys.{known_table, required, optional, truth, text, name, list_up_to, each_over}
 
 -- ---- `kind`
 
@@ -26,7 +28,7 @@ kind_named s =
     else None
 
 abbrev pub kind : Data → Reading Kind
-kind d = and_then (λ s. or_fault BadWord (kind_named s)) (text d)
+kind d = text d >>= λ s. or_fault BadWord (kind_named s)
 
 -- ---- `fields`
 
@@ -49,15 +51,15 @@ field_named s = field_of_kind (take (length s - 4) s) (field_kind_named (drop (l
 abbrev pub new_field : List FieldInfo → FieldInfo → Reading FieldInfo
 new_field earlier f = unless (fault_if (list_any (λ g. same_name f.name g.name) earlier) DuplicateName) (Ok f)
 
-abbrev pub field : List FieldInfo → Data → Reading FieldInfo
-field earlier d = and_then (new_field earlier) (and_then (λ s. or_fault BadWord (field_named s)) (text d))
+abbrev pub field_in : List FieldInfo → List ℕ → Reading FieldInfo
+field_in earlier s = or_fault BadWord (field_named s) >>= new_field earlier
 
-abbrev pub fields_from : List FieldInfo → ℕ → Items → Reading (List FieldInfo)
-fields_from earlier i no_items = Ok earlier
-fields_from earlier i (item d ds) = and_then (λ f. fields_from (earlier ++ f ∷ []) (i + 1) ds) (at_place i (field earlier d))
+-- the fields with one more
+abbrev pub one_more_field : List FieldInfo → Data → Reading (List FieldInfo)
+one_more_field earlier d = text d >>= λ s. field_in earlier s >>= λ f. Ok (earlier ++ f ∷ [])
 
 abbrev pub fields : Data → Reading (List FieldInfo)
-fields d = and_then (fields_from [] 0) (list_up_to 64 d)
+fields d = list_up_to MOST_FIELDS d >>= each_over one_more_field [] 0
 
 -- ---- the table
 
@@ -69,25 +71,23 @@ new_type registry t =
 
 abbrev pub type_keys : Members → Reading TypeInfo
 type_keys ms =
-    and_then (λ n. and_then (λ k. and_then (λ fs. changed (λ e. record { name = n; kind = k; fields = fs; enableable = e })
-    (optional (codes "enableable") false truth ms))
-    (optional (codes "fields") [] fields ms))
-    (optional (codes "kind") Plain kind ms))
-    (required (codes "name") name ms)
+    required (codes "name") name ms >>= λ n.
+    optional (codes "kind") Plain kind ms >>= λ k.
+    optional (codes "fields") [] fields ms >>= λ fs.
+    optional (codes "enableable") false truth ms >>= λ e.
+    Ok (record { name = n; kind = k; fields = fs; enableable = e })
 
-unfoldable pub type_table : List TypeInfo → Members → Reading TypeInfo
-type_table registry ms =
-    unless (unknown_key (codes "name" ∷ codes "kind" ∷ codes "fields" ∷ codes "enableable" ∷ []) ms)
-    (and_then (new_type registry) (type_keys ms))
+unfoldable pub type_in : List TypeInfo → Data → Reading TypeInfo
+type_in registry d =
+    known_table (codes "name" ∷ codes "kind" ∷ codes "fields" ∷ codes "enableable" ∷ []) d >>= λ ms.
+    type_keys ms >>= new_type registry
 
 -- ---- the list of types
 
--- the registry with the types of a list, each read over those before it
-abbrev pub types_from : List TypeInfo → ℕ → Items → Reading (List TypeInfo)
-types_from registry i no_items = Ok registry
-types_from registry i (item d ds) =
-    and_then (λ t. types_from (registry ++ t ∷ []) (i + 1) ds) (at_place i (and_then (type_table registry) (members d)))
+-- the registry with one more type, read over those before it
+abbrev pub one_more_type : List TypeInfo → Data → Reading (List TypeInfo)
+one_more_type registry d = type_in registry d >>= λ t. Ok (registry ++ t ∷ [])
 
--- at most 253 types, which with the built-in ones are 256
+-- the built-in types count, too
 abbrev pub registry_of : Data → Reading (List TypeInfo)
-registry_of d = and_then (types_from built_in_types 0) (list_up_to 253 d)
+registry_of d = list_up_to (MOST_TYPES - BUILT_IN_TYPES) d >>= each_over one_more_type built_in_types 0

@@ -1,113 +1,36 @@
 //! Events, as a scenario declares them.
-ghost use Rattle.std.specs.Prelude.{◌≡◌, codes};
-ghost use Rattle.toml.specs.View.{view, table_view};
-ghost use Rattle.scenario_read.specs.Faults.{Answers};
-ghost use Rattle.scenario_read.specs.ReadKeys.{required, perhaps, number, name};
-ghost use Rattle.scenario_read.specs.ReadEvents.{file_name_in, file_name, load_act, lone_act, act_of, event_of};
+ghost use Rattle.toml.specs.View.{table_view};
+ghost use Rattle.scenario_record.specs.Readings.{Answers};
+ghost use Rattle.scenario_read.specs.ReadEvents.{file_name, scene_keys, load_act, lone_act, act_of, event};
 
-use crate::fault::{Cause, ScenarioFault};
-use crate::faults::{bad, under};
-use crate::keys::{missing, name, number, text, value_of};
-use ent_types::{Name, Sequence};
+use crate::form::{Form, missing, perhaps, required};
+use crate::keys::{NameForm, NumberForm, known_table, text};
+use crate::texts::OperationForm;
+use ent_types::limits::{LONGEST_FILE_NAME, MOST_FRAMES};
+use ent_types::{Name, Registry, Sequence};
 use expr_trees::CommandText;
-use scenario_record::{EventAct, EventEntry, FileName};
+use scenario_record::{Cause, EventAct, EventEntry, FileName, ScenarioFault, bad};
 use std::alloc::Global;
 use toml::{Table, Value};
 
-/// The greatest number of bytes of a file's name.
-const LONGEST_FILE_NAME: usize = 255;
-
-/// The greatest frame of an event, and the longest delay of a load.
-const MOST_FRAMES: u32 = 100_000;
-
-/// The values of the keys of an event, where they are there.
+/// A file name, of 1 to 255 bytes.
 #[derive(Drop)]
-pub(crate) struct EventKeys {
-    /// The frame, which has to be there.
-    pub(crate) frame: u32,
-    /// `do`
-    pub(crate) operation: Option<CommandText>,
-    /// `load`
-    pub(crate) load: Option<FileName>,
-    /// `as`
-    pub(crate) label: Option<Name>,
-    /// `delay`
-    pub(crate) delay: Option<u32>,
-    /// `unload`
-    pub(crate) unload: Option<Name>,
-}
+struct FileForm;
 
-fn file_name_in(alloc: Global, text: &str) -> Result<FileName, ScenarioFault>
-    ensures { Answers (file_name_in text.now) result }
-{
-    let bytes = text.as_bytes();
-    if bytes.len() < 1 || bytes.len() > LONGEST_FILE_NAME {
-        return Err(bad(alloc, Cause::BadName));
-    }
-    match Vec::from_slice(alloc, bytes) {
-        Ok(name) => Ok(Sequence::from_vec(name)),
-        Err(_) => Err(ScenarioFault::Memory),
-    }
-}
+impl Form for FileForm {
+    type Out = FileName;
 
-/// The file name that a value is, of 1 to 255 bytes.
-fn file_name(alloc: Global, value: &Value) -> Result<FileName, ScenarioFault>
-    ensures { Answers (file_name (view value.now)) result }
-{
-    let text = text(alloc, value)?;
-    file_name_in(alloc, text)
-}
+    ghost reads = { λ _ d. file_name d };
 
-/// The frame of an event, which has to be there.
-pub(crate) fn frame_at(alloc: Global, table: &Table) -> Result<u32, ScenarioFault>
-    ensures { Answers (required (codes "frame") (number 1 100000) (table_view table.now)) result }
-{
-    match value_of(table, "frame") {
-        Some(value) => under(alloc, "frame", number(alloc, 1, MOST_FRAMES, value)),
-        None => missing(alloc, "frame"),
-    }
-}
-
-/// The file name under the key `load`, if it is there.
-pub(crate) fn load_at(alloc: Global, table: &Table) -> Result<Option<FileName>, ScenarioFault>
-    ensures { Answers (perhaps (codes "load") file_name (table_view table.now)) result }
-{
-    match value_of(table, "load") {
-        Some(value) => {
-            let name = under(alloc, "load", file_name(alloc, value))?;
-            Ok(Some(name))
+    fn read(&self, alloc: Global, value: &Value) -> Result<FileName, ScenarioFault> {
+        let bytes = text(alloc, value)?.as_bytes();
+        if bytes.len() < 1 || bytes.len() > LONGEST_FILE_NAME {
+            return Err(bad(alloc, Cause::BadName));
         }
-        None => Ok(None),
-    }
-}
-
-/// The name under a key, if it is there.
-pub(crate) fn name_at(
-    alloc: Global,
-    key: &str,
-    table: &Table,
-) -> Result<Option<Name>, ScenarioFault>
-    ensures { Answers (perhaps key.now name (table_view table.now)) result }
-{
-    match value_of(table, key) {
-        Some(value) => {
-            let name = under(alloc, key, name(alloc, value))?;
-            Ok(Some(name))
+        match Vec::from_slice(alloc, bytes) {
+            Ok(name) => Ok(Sequence::from_vec(name)),
+            Err(_) => Err(ScenarioFault::Memory),
         }
-        None => Ok(None),
-    }
-}
-
-/// The number of frames under the key `delay`, if it is there.
-pub(crate) fn delay_at(alloc: Global, table: &Table) -> Result<Option<u32>, ScenarioFault>
-    ensures { Answers (perhaps (codes "delay") (number 0 100000) (table_view table.now)) result }
-{
-    match value_of(table, "delay") {
-        Some(value) => {
-            let delay = under(alloc, "delay", number(alloc, 0, MOST_FRAMES, value))?;
-            Ok(Some(delay))
-        }
-        None => Ok(None),
     }
 }
 
@@ -129,7 +52,7 @@ fn load_act(
     }
 }
 
-/// Passes an act that has no keys beside its own.
+/// Checks that an act has neither `as` nor `delay`.
 fn lone_act(
     alloc: Global,
     label: Option<Name>,
@@ -146,12 +69,53 @@ fn lone_act(
     }
 }
 
-/// What an event does, by those of its keys that are there.
-fn act_of(alloc: Global, keys: EventKeys) -> Result<EventAct, ScenarioFault>
-    ensures { Answers (act_of keys.operation keys.load keys.unload keys.label keys.delay) result }
+/// The keys of an event that loads or unloads a scene.
+#[derive(Drop)]
+struct SceneKeys {
+    /// The file that is loaded.
+    load: Option<FileName>,
+    /// The name of the load.
+    label: Option<Name>,
+    /// How many frames later the scene is moved in.
+    delay: Option<u32>,
+    /// The load that is unloaded.
+    unload: Option<Name>,
+}
+
+fn scene_keys(alloc: Global, table: &Table) -> Result<SceneKeys, ScenarioFault>
+    ensures { Answers (scene_keys (table_view table.now)) result }
 {
-    let (label, delay) = (keys.label, keys.delay);
-    match (keys.operation, keys.load, keys.unload) {
+    let delays = NumberForm {
+        low: 0,
+        high: MOST_FRAMES,
+    };
+    let load = perhaps(alloc, "load", &FileForm, table)?;
+    let label = perhaps(alloc, "as", &NameForm, table)?;
+    let delay = perhaps(alloc, "delay", &delays, table)?;
+    let unload = perhaps(alloc, "unload", &NameForm, table)?;
+    Ok(SceneKeys {
+        load,
+        label,
+        delay,
+        unload,
+    })
+}
+
+/// Returns what an event does, by those of its keys that are there.
+fn act_of(
+    alloc: Global,
+    operation: Option<CommandText>,
+    keys: SceneKeys,
+) -> Result<EventAct, ScenarioFault>
+    ensures { Answers (act_of operation keys) result }
+{
+    let SceneKeys {
+        load,
+        label,
+        delay,
+        unload,
+    } = keys;
+    match (operation, load, unload) {
         (Some(operation), None, None) => {
             lone_act(alloc, label, delay, EventAct::Operate(operation))
         }
@@ -165,11 +129,33 @@ fn act_of(alloc: Global, keys: EventKeys) -> Result<EventAct, ScenarioFault>
     }
 }
 
-/// The event of these keys.
-pub(crate) fn event_of(alloc: Global, keys: EventKeys) -> Result<EventEntry, ScenarioFault>
-    ensures { Answers (event_of keys) result }
-{
-    let frame = keys.frame;
-    let act = act_of(alloc, keys)?;
-    Ok(EventEntry { frame, act })
+/// An event.
+#[derive(Drop)]
+pub(crate) struct EventForm<'a> {
+    /// The types.
+    pub(crate) registry: &'a Registry,
+}
+
+impl<'a> Form for EventForm<'a> {
+    type Out = EventEntry;
+
+    ghost reads = { λ it d. event it.registry.now d };
+
+    #[tactic(auto, unfolding(crate::specs::ReadEvents::event))]
+    fn read(&self, alloc: Global, value: &Value) -> Result<EventEntry, ScenarioFault> {
+        let known = ["frame", "do", "load", "as", "delay", "unload"];
+        let frames = NumberForm {
+            low: 1,
+            high: MOST_FRAMES,
+        };
+        let operations = OperationForm {
+            registry: self.registry,
+        };
+        let table = known_table(alloc, &known, value)?;
+        let frame = required(alloc, "frame", &frames, table)?;
+        let operation = perhaps(alloc, "do", &operations, table)?;
+        let keys = scene_keys(alloc, table)?;
+        let act = act_of(alloc, operation, keys)?;
+        Ok(EventEntry { frame, act })
+    }
 }

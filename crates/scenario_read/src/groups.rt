@@ -1,21 +1,16 @@
 //! The keys that place a child among its siblings, and groups.
-ghost use Rattle.std.specs.Prelude.{◌≡◌, [], codes};
-ghost use Rattle.toml.specs.View.{view, items_view, table_view};
-ghost use Rattle.scenario_read.specs.Faults.{Answers, and_then};
-ghost use Rattle.scenario_read.specs.ReadKeys.{optional, members, each_from, tables_up_to};
-ghost use Rattle.scenario_read.specs.ReadGroups.{placement, in_two_bands, default_group, placed_group, group_keys, group_table};
+ghost use Rattle.std.specs.Prelude.{◌≡◌};
+ghost use Rattle.toml.specs.View.{table_view};
+ghost use Rattle.scenario_record.specs.Readings.{Answers};
+ghost use Rattle.scenario_read.specs.ReadGroups.{placement, in_two_bands, default_group, group};
 
-use crate::fault::{Cause, ScenarioFault};
-use crate::faults::{at_place, bad, under};
-use crate::keyed::{name_or, names_at, own_name, truth_at};
-use crate::keys::{list_up_to, members, only_known, value_of};
+use crate::form::{Form, ListOf, optional, required};
+use crate::keys::{NAMES, NameForm, TruthForm, known_table};
+use ent_types::limits::MOST_GROUPS;
 use ent_types::{Name, Sequence};
-use scenario_record::GroupEntry;
+use scenario_record::{Cause, GroupEntry, ScenarioFault, bad};
 use std::alloc::Global;
 use toml::{Table, Value};
-
-/// The greatest number of groups.
-const MOST_GROUPS: usize = 64;
 
 /// The siblings that a child comes before and after, and its band.
 #[derive(Drop)]
@@ -30,14 +25,14 @@ pub(crate) struct Placement {
     pub(crate) last: bool,
 }
 
-/// The keys that place a child among its siblings.
+/// Reads the keys that place a child among its siblings.
 pub(crate) fn placement_of(alloc: Global, table: &Table) -> Result<Placement, ScenarioFault>
     ensures { Answers (placement (table_view table.now)) result }
 {
-    let before = names_at(alloc, "before", table)?;
-    let after = names_at(alloc, "after", table)?;
-    let first = truth_at(alloc, "first", table)?;
-    let last = truth_at(alloc, "last", table)?;
+    let before = optional(alloc, "before", Sequence::new(alloc), &NAMES, table)?;
+    let after = optional(alloc, "after", Sequence::new(alloc), &NAMES, table)?;
+    let first = optional(alloc, "first", false, &TruthForm, table)?;
+    let last = optional(alloc, "last", false, &TruthForm, table)?;
     Ok(Placement {
         before,
         after,
@@ -47,7 +42,7 @@ pub(crate) fn placement_of(alloc: Global, table: &Table) -> Result<Placement, Sc
 }
 
 impl Placement {
-    /// Says whether it has a child be both first and last, which can't be.
+    /// `true` if it puts a child both first and last, which is refused.
     pub(crate) fn is_in_two_bands(&self) -> bool
         ensures { result ≡ in_two_bands self.now }
     {
@@ -55,7 +50,7 @@ impl Placement {
     }
 }
 
-/// The group that a child is of where it names none.
+/// Returns the group of a child that names none.
 pub(crate) fn default_group() -> Name
     ensures { result ≡ default_group }
 {
@@ -65,80 +60,38 @@ pub(crate) fn default_group() -> Name
     }
 }
 
-fn placed_group(
-    alloc: Global,
-    name: Name,
-    parent: Name,
-    placement: Placement,
-) -> Result<GroupEntry, ScenarioFault>
-    ensures { Answers (placed_group name parent placement) result }
-{
-    if placement.is_in_two_bands() {
-        return Err(bad(alloc, Cause::BadShape));
-    }
-    Ok(GroupEntry {
-        name,
-        parent,
-        before: placement.before,
-        after: placement.after,
-        first: placement.first,
-        last: placement.last,
-    })
-}
+/// A group.
+#[derive(Drop)]
+pub(crate) struct GroupForm;
 
-fn group_keys(alloc: Global, table: &Table) -> Result<GroupEntry, ScenarioFault>
-    ensures { Answers (group_keys (table_view table.now)) result }
-{
-    let name = own_name(alloc, table)?;
-    let parent = name_or(alloc, "parent", default_group(), table)?;
-    let placement = placement_of(alloc, table)?;
-    placed_group(alloc, name, parent, placement)
-}
+impl Form for GroupForm {
+    type Out = GroupEntry;
 
-/// The group that a table declares.
-#[tactic(auto, unfolding(crate::specs::ReadGroups::group_table))]
-fn group_table(alloc: Global, table: &Table) -> Result<GroupEntry, ScenarioFault>
-    ensures { Answers (group_table (table_view table.now)) result }
-{
-    only_known(
-        alloc,
-        &["name", "parent", "before", "after", "first", "last"],
-        table,
-    )?;
-    group_keys(alloc, table)
-}
+    ghost reads = { λ _ d. group d };
 
-fn group_in(alloc: Global, value: &Value) -> Result<GroupEntry, ScenarioFault>
-    ensures { Answers (and_then group_table (members (view value.now))) result }
-{
-    let table = members(alloc, value)?;
-    group_table(alloc, table)
-}
-
-fn each_group(alloc: Global, values: &[Value]) -> Result<Sequence<GroupEntry>, ScenarioFault>
-    ensures { Answers (each_from (λ d. and_then group_table (members d)) 0 (items_view values.now)) result }
-{
-    let mut groups = Sequence::new(alloc);
-    for (i, value) in values.iter().enumerate() {
-        let group = at_place(alloc, i, group_in(alloc, value))?;
-        groups.push(group)?;
-    }
-    Ok(groups)
-}
-
-fn groups(alloc: Global, value: &Value) -> Result<Sequence<GroupEntry>, ScenarioFault>
-    ensures { Answers (tables_up_to 64 group_table (view value.now)) result }
-{
-    let values = list_up_to(alloc, MOST_GROUPS, value)?;
-    each_group(alloc, values)
-}
-
-/// The groups of a scenario, under the key `group`.
-pub(crate) fn groups_at(alloc: Global, table: &Table) -> Result<Sequence<GroupEntry>, ScenarioFault>
-    ensures { Answers (optional (codes "group") [] (tables_up_to 64 group_table) (table_view table.now)) result }
-{
-    match value_of(table, "group") {
-        Some(value) => under(alloc, "group", groups(alloc, value)),
-        None => Ok(Sequence::new(alloc)),
+    #[tactic(auto, unfolding(crate::specs::ReadGroups::group))]
+    fn read(&self, alloc: Global, value: &Value) -> Result<GroupEntry, ScenarioFault> {
+        let known = ["name", "parent", "before", "after", "first", "last"];
+        let table = known_table(alloc, &known, value)?;
+        let name = required(alloc, "name", &NameForm, table)?;
+        let parent = optional(alloc, "parent", default_group(), &NameForm, table)?;
+        let placement = placement_of(alloc, table)?;
+        if placement.is_in_two_bands() {
+            return Err(bad(alloc, Cause::BadShape));
+        }
+        Ok(GroupEntry {
+            name,
+            parent,
+            before: placement.before,
+            after: placement.after,
+            first: placement.first,
+            last: placement.last,
+        })
     }
 }
+
+/// The groups of a scenario.
+pub(crate) const GROUPS: ListOf<GroupForm> = ListOf {
+    most: MOST_GROUPS,
+    item: GroupForm,
+};

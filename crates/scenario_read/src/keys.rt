@@ -1,18 +1,20 @@
-//! The keys of a table, and the values that stand by themselves.
-ghost use Rattle.std.specs.Prelude.{◌≡◌, ◌≤◌, [], codes, length, map, MatchOption, IfOk, None, Some, Err};
+//! The keys of a table, and the plain values under them: truth values, numbers, texts, names, lists and tables.
+ghost use Rattle.std.specs.Prelude.{◌≡◌, ◌≤◌, length, map, MatchOption, IfOk, None, Some};
 ghost use Rattle.std.specs.List.{list_any};
-ghost use Rattle.toml.specs.Data.{string, integer, array, table as table_of, as_str, as_array, as_table, as_bool, get_member};
+ghost use Rattle.toml.specs.Data.{integer, get_member};
 ghost use Rattle.toml.specs.View.{view, items_view, table_view};
 ghost use Rattle.ent_types.specs.Types.{same_name};
-ghost use Rattle.scenario_read.specs.declared.fault.Cause.TheVariants.{Missing};
-ghost use Rattle.scenario_read.specs.Faults.{Answers, AnswersAs, Passes, bad, below_key};
-ghost use Rattle.scenario_read.specs.ReadKeys.{unknown_key, required, optional, truth, number, text, name_in, name, list, members, few_items, list_up_to, few_members, members_up_to};
+ghost use Rattle.scenario_record.specs.Readings.{Answers, AnswersAs, Passes};
+ghost use Rattle.scenario_read.specs.ReadKeys.{unknown_key, truth, number, text, name_in, name, list, members, known_table, few_items, list_up_to, few_members, members_up_to};
 
-use crate::fault::{Cause, ScenarioFault};
-use crate::faults::{bad, below_key, under};
+use crate::form::{Form, ListOf};
 use ent_types::Name;
+use ent_types::limits::MOST_ORDER_NAMES;
+use scenario_record::{Cause, ScenarioFault, bad, below_key};
 use std::alloc::Global;
 use toml::{Table, Value};
+
+// ---- keys
 
 fn is_known(known: &[&str], key: &str) -> bool
     ensures { result ≡ list_any (λ name. same_name key.now name.now) known.now }
@@ -20,7 +22,7 @@ fn is_known(known: &[&str], key: &str) -> bool
     known.iter().any(|name| key == *name)
 }
 
-/// Passes where each key of a table is among these.
+/// Checks that each key of a table is one of these.
 pub(crate) fn only_known(alloc: Global, known: &[&str], table: &Table) -> Result<(), ScenarioFault>
     ensures { Passes (unknown_key (map (λ name. name.now) known.now) (table_view table.now)) result }
 {
@@ -33,7 +35,7 @@ pub(crate) fn only_known(alloc: Global, known: &[&str], table: &Table) -> Result
     Ok(())
 }
 
-/// The value of a key.
+/// Returns the value of a key.
 pub(crate) fn value_of<'a>(table: &'a Table, key: &str) -> Option<&'a Value>
     ensures { MatchOption result
         (get_member key.now (table_view table.now) ≡ None)
@@ -42,49 +44,9 @@ pub(crate) fn value_of<'a>(table: &'a Table, key: &str) -> Option<&'a Value>
     table.get(key)
 }
 
-/// The fault of a table without a key that has to be there.
-pub(crate) fn missing<T>(alloc: Global, key: &str) -> Result<T, ScenarioFault>
-    ensures { Answers (Err (below_key key.now (bad Missing))) result }
-{
-    let fault = bad(alloc, Cause::Missing);
-    Err(below_key(alloc, key, fault))
-}
+// ---- texts, lists and tables
 
-/// The truth value that a value is.
-pub(crate) fn truth(alloc: Global, value: &Value) -> Result<bool, ScenarioFault>
-    ensures { Answers (truth (view value.now)) result }
-{
-    match value.as_bool() {
-        Some(truth) => Ok(truth),
-        None => Err(bad(alloc, Cause::WrongType)),
-    }
-}
-
-/// The number from `low` to `high` that a value is.
-pub(crate) fn number(
-    alloc: Global,
-    low: u32,
-    high: u32,
-    value: &Value,
-) -> Result<u32, ScenarioFault>
-    ensures { Answers (number low high (view value.now)) result }
-{
-    match value.as_integer() {
-        Some(found) => in_range(alloc, low, high, found),
-        None => Err(bad(alloc, Cause::WrongType)),
-    }
-}
-
-fn in_range(alloc: Global, low: u32, high: u32, found: i64) -> Result<u32, ScenarioFault>
-    ensures { Answers (number low high (integer found)) result }
-{
-    if found < i64::from(low) || found > i64::from(high) {
-        return Err(bad(alloc, Cause::NumberRange));
-    }
-    Ok(found as u32)
-}
-
-/// The text that a value is.
+/// Reads a text.
 pub(crate) fn text(alloc: Global, value: &Value) -> Result<&str, ScenarioFault>
     ensures { AnswersAs (λ text. text.now) (text (view value.now)) result }
 {
@@ -94,25 +56,7 @@ pub(crate) fn text(alloc: Global, value: &Value) -> Result<&str, ScenarioFault>
     }
 }
 
-/// The name that a text is.
-pub(crate) fn name_in(alloc: Global, text: &str) -> Result<Name, ScenarioFault>
-    ensures { Answers (name_in text.now) result }
-{
-    match Name::of(text.as_bytes()) {
-        Some(name) => Ok(name),
-        None => Err(bad(alloc, Cause::BadName)),
-    }
-}
-
-/// The name that a value is.
-pub(crate) fn name(alloc: Global, value: &Value) -> Result<Name, ScenarioFault>
-    ensures { Answers (name (view value.now)) result }
-{
-    let text = text(alloc, value)?;
-    name_in(alloc, text)
-}
-
-/// The elements of the list that a value is.
+/// Reads a list.
 pub(crate) fn list(alloc: Global, value: &Value) -> Result<&[Value], ScenarioFault>
     ensures { AnswersAs (λ found. items_view found.now) (list (view value.now)) result }
 {
@@ -122,7 +66,7 @@ pub(crate) fn list(alloc: Global, value: &Value) -> Result<&[Value], ScenarioFau
     }
 }
 
-/// The table that a value is.
+/// Reads a table.
 pub(crate) fn members(alloc: Global, value: &Value) -> Result<&Table, ScenarioFault>
     ensures { AnswersAs (λ found. table_view found.now) (members (view value.now)) result }
 {
@@ -132,7 +76,20 @@ pub(crate) fn members(alloc: Global, value: &Value) -> Result<&Table, ScenarioFa
     }
 }
 
-/// The elements of a list that has at most so many.
+/// Reads a table whose keys are all among these.
+pub(crate) fn known_table<'a>(
+    alloc: Global,
+    known: &[&str],
+    value: &'a Value,
+) -> Result<&'a Table, ScenarioFault>
+    ensures { AnswersAs (λ found. table_view found.now) (known_table (map (λ name. name.now) known.now) (view value.now)) result }
+{
+    let found = members(alloc, value)?;
+    only_known(alloc, known, found)?;
+    Ok(found)
+}
+
+/// Reads a list of at most `most` values.
 pub(crate) fn list_up_to(
     alloc: Global,
     most: usize,
@@ -156,7 +113,7 @@ fn few_items(alloc: Global, most: usize, values: &[Value]) -> Result<&[Value], S
     Ok(values)
 }
 
-/// The table that a value is, where it has at most so many keys.
+/// Reads a table of at most `most` keys.
 pub(crate) fn members_up_to(
     alloc: Global,
     most: usize,
@@ -177,3 +134,84 @@ fn few_members(alloc: Global, most: usize, table: &Table) -> Result<&Table, Scen
     }
     Ok(table)
 }
+
+// ---- truth values, numbers and names
+
+/// A truth value.
+#[derive(Drop)]
+pub(crate) struct TruthForm;
+
+impl Form for TruthForm {
+    type Out = bool;
+
+    ghost reads = { λ _ d. truth d };
+
+    fn read(&self, alloc: Global, value: &Value) -> Result<bool, ScenarioFault> {
+        match value.as_bool() {
+            Some(truth) => Ok(truth),
+            None => Err(bad(alloc, Cause::WrongType)),
+        }
+    }
+}
+
+/// A number from `low` to `high`.
+#[derive(Drop)]
+pub(crate) struct NumberForm {
+    /// The least number.
+    pub(crate) low: u32,
+    /// The greatest number.
+    pub(crate) high: u32,
+}
+
+fn in_range(alloc: Global, low: u32, high: u32, found: i64) -> Result<u32, ScenarioFault>
+    ensures { Answers (number low high (integer found)) result }
+{
+    if found < i64::from(low) || found > i64::from(high) {
+        return Err(bad(alloc, Cause::NumberRange));
+    }
+    Ok(found as u32)
+}
+
+impl Form for NumberForm {
+    type Out = u32;
+
+    ghost reads = { λ it d. number it.low it.high d };
+
+    fn read(&self, alloc: Global, value: &Value) -> Result<u32, ScenarioFault> {
+        match value.as_integer() {
+            Some(found) => in_range(alloc, self.low, self.high, found),
+            None => Err(bad(alloc, Cause::WrongType)),
+        }
+    }
+}
+
+/// Reads a text that is a name.
+pub(crate) fn name_in(alloc: Global, text: &str) -> Result<Name, ScenarioFault>
+    ensures { Answers (name_in text.now) result }
+{
+    match Name::of(text.as_bytes()) {
+        Some(name) => Ok(name),
+        None => Err(bad(alloc, Cause::BadName)),
+    }
+}
+
+/// A name.
+#[derive(Drop)]
+pub(crate) struct NameForm;
+
+impl Form for NameForm {
+    type Out = Name;
+
+    ghost reads = { λ _ d. name d };
+
+    fn read(&self, alloc: Global, value: &Value) -> Result<Name, ScenarioFault> {
+        let text = text(alloc, value)?;
+        name_in(alloc, text)
+    }
+}
+
+/// The names under `before` or `after`.
+pub(crate) const NAMES: ListOf<NameForm> = ListOf {
+    most: MOST_ORDER_NAMES,
+    item: NameForm,
+};

@@ -1,27 +1,126 @@
-//! What is made before the first frame.
-ghost use Rattle.std.specs.Prelude.{◌≡◌, ◌<◌, [], codes, length, All, IfOk};
-ghost use Rattle.toml.specs.View.{view, items_view, table_view};
-ghost use Rattle.scenario_read.specs.Faults.{Answers};
-ghost use Rattle.scenario_read.specs.ReadKeys.{optional, number, each_from, list, members, each_up_to};
-ghost use Rattle.scenario_read.specs.ReadSpawns.{part_of, part, parts_of, with_table, part_types, may_be_off, off_types, spawn_keys, spawn_table, spawn_item};
+//! Spawns, which make entities before the first frame.
+ghost use Rattle.std.specs.Prelude.{◌≡◌, ◌<◌, length, All, IfOk};
+ghost use Rattle.toml.specs.Data.{integer, string};
+ghost use Rattle.toml.specs.View.{view, items_view};
+ghost use Rattle.ent_types.specs.declared.limits.TheConstants.{MOST_TYPES};
+ghost use Rattle.scenario_record.specs.Readings.{Answers};
+ghost use Rattle.scenario_read.specs.ReadSpawns.{number_value, ref_value, field_value, values_from, part_values, part_of, part, with_table, part_types, disabled_types, spawn};
 
-use crate::fault::ScenarioFault;
-use crate::faults::{at_place, under};
-use crate::keyed::number_at;
-use crate::keys::{list, list_up_to, members, only_known, value_of};
-use crate::type_lists::{Fitting, each_type, type_of_key};
-use crate::values::part_values;
-use ent_types::{Registry, Sequence, TypeId, TypeSet};
-use expr_trees::PartExpr;
-use scenario_record::SpawnEntry;
+use crate::form::{Form, KeyForm, at_place, each_member, each_over, optional};
+use crate::keys::{NumberForm, known_table, list, members, text};
+use crate::queries::fits;
+use crate::texts::{spawn_expr, spawn_ref};
+use crate::type_lists::{Allowed, Named, TypeStep, type_of_key};
+use ent_types::limits::{MOST_ENTITIES, MOST_TYPES};
+use ent_types::{FieldInfo, FieldKind, Registry, Sequence, TypeId, TypeSet};
+use expr_trees::{Expr, PartExpr, ValueExpr};
+use scenario_record::{Cause, ScenarioFault, SpawnEntry, bad};
 use std::alloc::Global;
-use toml::{Table, Value};
+use toml::Value;
 
-/// The greatest number of rows of a spawn.
-const MOST_ROWS: u32 = 1_048_576;
+// ---- the values of a part
 
-/// The greatest number of spawns.
-const MOST_SPAWNS: usize = 1024;
+fn integer_for(
+    alloc: Global,
+    registry: &Registry,
+    kind: FieldKind,
+    number: i64,
+) -> Result<ValueExpr, ScenarioFault>
+    ensures { Answers (number_value registry.now kind (integer number)) result }
+{
+    if !fits(kind, number) {
+        return Err(bad(alloc, Cause::NumberRange));
+    }
+    Ok(ValueExpr::Int(Expr::Number(number)))
+}
+
+fn text_for(
+    alloc: Global,
+    registry: &Registry,
+    kind: FieldKind,
+    text: &str,
+) -> Result<ValueExpr, ScenarioFault>
+    ensures { Answers (number_value registry.now kind (string text.now)) result }
+{
+    let expr = spawn_expr(alloc, registry, text)?;
+    Ok(ValueExpr::Int(expr))
+}
+
+/// Reads the number or the text for a number field.
+fn number_value(
+    alloc: Global,
+    registry: &Registry,
+    kind: FieldKind,
+    value: &Value,
+) -> Result<ValueExpr, ScenarioFault>
+    ensures { Answers (number_value registry.now kind (view value.now)) result }
+{
+    match value {
+        Value::Integer(number) => integer_for(alloc, registry, kind, *number),
+        Value::String(text) => text_for(alloc, registry, kind, text.as_str()),
+        _ => Err(bad(alloc, Cause::WrongType)),
+    }
+}
+
+/// Reads the text for a ref field.
+fn ref_value(alloc: Global, registry: &Registry, value: &Value) -> Result<ValueExpr, ScenarioFault>
+    ensures { Answers (ref_value registry.now (view value.now)) result }
+{
+    let text = text(alloc, value)?;
+    let found = spawn_ref(alloc, registry, text)?;
+    Ok(ValueExpr::Ref(found))
+}
+
+fn field_value(
+    alloc: Global,
+    registry: &Registry,
+    kind: FieldKind,
+    value: &Value,
+) -> Result<ValueExpr, ScenarioFault>
+    ensures { Answers (field_value registry.now kind (view value.now)) result }
+{
+    match kind {
+        FieldKind::I32 => number_value(alloc, registry, FieldKind::I32, value),
+        FieldKind::I64 => number_value(alloc, registry, FieldKind::I64, value),
+        FieldKind::Ref => ref_value(alloc, registry, value),
+    }
+}
+
+/// Reads a value for each field.
+fn each_value(
+    alloc: Global,
+    registry: &Registry,
+    fields: &[FieldInfo],
+    values: &[Value],
+) -> Result<Sequence<ValueExpr>, ScenarioFault>
+    requires { length values.now ≡ length fields.now }
+    ensures { Answers (values_from registry.now 0 fields.now (items_view values.now)) result }
+{
+    let mut found = Sequence::new(alloc);
+    for (i, field) in fields.iter().enumerate() {
+        let value = field_value(alloc, registry, field.kind, &values[i]);
+        found.push(at_place(alloc, i, value)?)?;
+    }
+    Ok(found)
+}
+
+/// Reads a list of values, one for each field.
+#[tactic(auto, using(crate::proofs::KeyLemmas::counts))]
+fn part_values(
+    alloc: Global,
+    registry: &Registry,
+    fields: &[FieldInfo],
+    values: &[Value],
+) -> Result<Sequence<ValueExpr>, ScenarioFault>
+    ensures { Answers (part_values registry.now fields.now (items_view values.now)) result }
+{
+    if values.len() != fields.len() {
+        return Err(bad(alloc, Cause::WrongCount));
+    }
+    each_value(alloc, registry, fields, values)
+}
+
+// ---- the parts
 
 fn part_of(
     alloc: Global,
@@ -37,68 +136,55 @@ fn part_of(
     Ok(PartExpr { ty, values })
 }
 
-fn part(
-    alloc: Global,
-    registry: &Registry,
-    key: &str,
-    value: &Value,
-) -> Result<PartExpr, ScenarioFault>
-    ensures answer { Answers (part registry.now key.now (view value.now)) result }
-    ensures small { IfOk result (λ part. part.ty.0 < 256) }
-{
-    let values = list(alloc, value)?;
-    let ty = type_of_key(alloc, registry, &Fitting::Spawned, key)?;
-    part_of(alloc, registry, values, ty)
+/// The part of a spawn with its type as a key.
+#[derive(Drop)]
+struct PartForm<'a> {
+    /// The types.
+    registry: &'a Registry,
 }
 
-/// The parts under the keys of a table.
-fn parts_of(
-    alloc: Global,
-    registry: &Registry,
-    table: &Table,
-) -> Result<Sequence<PartExpr>, ScenarioFault>
-    ensures answer { Answers (parts_of registry.now (table_view table.now)) result }
-    ensures small { IfOk result (λ parts. All (λ p. p.ty.0 < 256) parts) }
-{
-    let mut parts = Sequence::new(alloc);
-    for (key, value) in table {
-        let key = key.as_str();
-        let part = under(alloc, key, part(alloc, registry, key, value))?;
-        parts.push(part)?;
-    }
-    Ok(parts)
-}
+impl<'a> KeyForm for PartForm<'a> {
+    type Out = PartExpr;
 
-fn with_table(
-    alloc: Global,
-    registry: &Registry,
-    value: &Value,
-) -> Result<Sequence<PartExpr>, ScenarioFault>
-    ensures answer { Answers (with_table registry.now (view value.now)) result }
-    ensures small { IfOk result (λ parts. All (λ p. p.ty.0 < 256) parts) }
-{
-    let table = members(alloc, value)?;
-    parts_of(alloc, registry, table)
-}
+    ghost reads = { λ it key d. part it.registry.now key d };
 
-/// The parts of a spawn, under the key `with`.
-fn parts_at(
-    alloc: Global,
-    registry: &Registry,
-    table: &Table,
-) -> Result<Sequence<PartExpr>, ScenarioFault>
-    ensures answer { Answers (optional (codes "with") [] (with_table registry.now) (table_view table.now)) result }
-    ensures small { IfOk result (λ parts. All (λ p. p.ty.0 < 256) parts) }
-{
-    match value_of(table, "with") {
-        Some(value) => under(alloc, "with", with_table(alloc, registry, value)),
-        None => Ok(Sequence::new(alloc)),
+    ghost sound = { λ _ part. part.ty.0 < MOST_TYPES };
+
+    fn read(&self, alloc: Global, key: &str, value: &Value) -> Result<PartExpr, ScenarioFault> {
+        let values = list(alloc, value)?;
+        let ty = type_of_key(alloc, self.registry, &Allowed::Spawned, key)?;
+        part_of(alloc, self.registry, values, ty)
     }
 }
 
-/// The types of these parts.
+/// The parts of a spawn.
+#[derive(Drop)]
+struct WithForm<'a> {
+    /// The types.
+    registry: &'a Registry,
+}
+
+impl<'a> Form for WithForm<'a> {
+    type Out = Sequence<PartExpr>;
+
+    ghost reads = { λ it d. with_table it.registry.now d };
+
+    ghost sound = { λ _ parts. All (λ p. p.ty.0 < MOST_TYPES) parts };
+
+    fn read(&self, alloc: Global, value: &Value) -> Result<Sequence<PartExpr>, ScenarioFault> {
+        let table = members(alloc, value)?;
+        let part = PartForm {
+            registry: self.registry,
+        };
+        each_member(alloc, &part, table)
+    }
+}
+
+// ---- the disabled types
+
+/// Returns the types of these parts.
 fn types_of(parts: &[PartExpr]) -> TypeSet
-    requires { All (λ p. p.ty.0 < 256) parts.now }
+    requires { All (λ p. p.ty.0 < MOST_TYPES) parts.now }
     ensures { result ≡ part_types parts.now }
 {
     let mut types = TypeSet::empty();
@@ -108,112 +194,65 @@ fn types_of(parts: &[PartExpr]) -> TypeSet
     types
 }
 
-/// The types that a list names, of those of the parts that can be switched off.
-fn off_types(
-    alloc: Global,
-    registry: &Registry,
-    parts: &[PartExpr],
-    value: &Value,
-) -> Result<TypeSet, ScenarioFault>
-    requires { All (λ p. p.ty.0 < 256) parts.now }
-    ensures { Answers (off_types registry.now parts.now (view value.now)) result }
-{
-    let values = list(alloc, value)?;
-    let none = TypeSet::empty();
-    let fitting = Fitting::SwitchableOf(types_of(parts));
-    let named = each_type(alloc, registry, &fitting, &none, values)?;
-    Ok(named.found)
+/// The types that are disabled in each row, which are enableable types of its parts.
+#[derive(Drop)]
+struct DisabledForm<'a> {
+    /// The types.
+    registry: &'a Registry,
+    /// The types of the parts.
+    types: TypeSet,
 }
 
-/// The types that are switched off in each row, under the key `disabled`.
-fn off_at(
-    alloc: Global,
-    registry: &Registry,
-    parts: &[PartExpr],
-    table: &Table,
-) -> Result<TypeSet, ScenarioFault>
-    requires { All (λ p. p.ty.0 < 256) parts.now }
-    ensures { Answers (optional (codes "disabled") [] (off_types registry.now parts.now) (table_view table.now)) result }
-{
-    match value_of(table, "disabled") {
-        Some(value) => under(alloc, "disabled", off_types(alloc, registry, parts, value)),
-        None => Ok(TypeSet::empty()),
+impl<'a> Form for DisabledForm<'a> {
+    type Out = TypeSet;
+
+    ghost reads = { λ it d. disabled_types it.registry.now it.types d };
+
+    fn read(&self, alloc: Global, value: &Value) -> Result<TypeSet, ScenarioFault> {
+        let values = list(alloc, value)?;
+        let none = TypeSet::empty();
+        let allowed = Allowed::EnableableOf(self.types);
+        let step = TypeStep {
+            registry: self.registry,
+            allowed: &allowed,
+        };
+        let named = each_over(alloc, &step, Named::none_beside(&none), values)?;
+        Ok(named.found)
     }
 }
 
-fn spawn_keys(
-    alloc: Global,
-    registry: &Registry,
-    table: &Table,
-) -> Result<SpawnEntry, ScenarioFault>
-    ensures { Answers (spawn_keys registry.now (table_view table.now)) result }
-{
-    let count = number_at(alloc, "count", MOST_ROWS, table)?;
-    let parts = parts_at(alloc, registry, table)?;
-    let disabled = off_at(alloc, registry, parts.as_slice(), table)?;
-    Ok(SpawnEntry {
-        count,
-        parts,
-        disabled,
-    })
+// ---- the table
+
+/// A spawn.
+#[derive(Drop)]
+pub(crate) struct SpawnForm<'a> {
+    /// The types.
+    pub(crate) registry: &'a Registry,
 }
 
-#[tactic(auto, unfolding(crate::specs::ReadSpawns::spawn_table))]
-fn spawn_table(
-    alloc: Global,
-    registry: &Registry,
-    table: &Table,
-) -> Result<SpawnEntry, ScenarioFault>
-    ensures { Answers (spawn_table registry.now (table_view table.now)) result }
-{
-    only_known(alloc, &["count", "with", "disabled"], table)?;
-    spawn_keys(alloc, registry, table)
-}
+impl<'a> Form for SpawnForm<'a> {
+    type Out = SpawnEntry;
 
-#[tactic(auto, unfolding(crate::specs::ReadSpawns::spawn_item))]
-fn spawn_in(alloc: Global, registry: &Registry, value: &Value) -> Result<SpawnEntry, ScenarioFault>
-    ensures { Answers (spawn_item registry.now (view value.now)) result }
-{
-    let table = members(alloc, value)?;
-    spawn_table(alloc, registry, table)
-}
+    ghost reads = { λ it d. spawn it.registry.now d };
 
-fn each_spawn(
-    alloc: Global,
-    registry: &Registry,
-    values: &[Value],
-) -> Result<Sequence<SpawnEntry>, ScenarioFault>
-    ensures { Answers (each_from (spawn_item registry.now) 0 (items_view values.now)) result }
-{
-    let mut spawns = Sequence::new(alloc);
-    for (i, value) in values.iter().enumerate() {
-        let spawn = at_place(alloc, i, spawn_in(alloc, registry, value))?;
-        spawns.push(spawn)?;
-    }
-    Ok(spawns)
-}
-
-fn spawns(
-    alloc: Global,
-    registry: &Registry,
-    value: &Value,
-) -> Result<Sequence<SpawnEntry>, ScenarioFault>
-    ensures { Answers (each_up_to 1024 (spawn_item registry.now) (view value.now)) result }
-{
-    let values = list_up_to(alloc, MOST_SPAWNS, value)?;
-    each_spawn(alloc, registry, values)
-}
-
-/// What is made before the first frame, under the key `spawn`.
-pub(crate) fn spawns_at(
-    alloc: Global,
-    registry: &Registry,
-    table: &Table,
-) -> Result<Sequence<SpawnEntry>, ScenarioFault>
-    ensures { Answers (optional (codes "spawn") [] (each_up_to 1024 (spawn_item registry.now)) (table_view table.now)) result }
-{
-    match value_of(table, "spawn") {
-        Some(value) => under(alloc, "spawn", spawns(alloc, registry, value)),
-        None => Ok(Sequence::new(alloc)),
+    #[tactic(auto, unfolding(crate::specs::ReadSpawns::spawn))]
+    fn read(&self, alloc: Global, value: &Value) -> Result<SpawnEntry, ScenarioFault> {
+        let registry = self.registry;
+        let counts = NumberForm {
+            low: 1,
+            high: MOST_ENTITIES,
+        };
+        let table = known_table(alloc, &["count", "with", "disabled"], value)?;
+        let count = optional(alloc, "count", 1, &counts, table)?;
+        let with = WithForm { registry };
+        let parts = optional(alloc, "with", Sequence::new(alloc), &with, table)?;
+        let types = types_of(parts.as_slice());
+        let of_parts = DisabledForm { registry, types };
+        let disabled = optional(alloc, "disabled", TypeSet::empty(), &of_parts, table)?;
+        Ok(SpawnEntry {
+            count,
+            parts,
+            disabled,
+        })
     }
 }

@@ -1,173 +1,223 @@
 //! Systems, as a scenario declares them.
-ghost use Rattle.std.specs.Prelude.{◌≡◌, [], codes};
-ghost use Rattle.toml.specs.View.{view, table_view};
-ghost use Rattle.scenario_read.specs.Faults.{Answers};
-ghost use Rattle.scenario_read.specs.Fits.{fits};
-ghost use Rattle.scenario_read.specs.ReadKeys.{optional};
-ghost use Rattle.scenario_read.specs.ReadSystems.{clause, clauses, bound_types, changed_types, filters};
+ghost use Rattle.std.specs.Prelude.{◌≡◌};
+ghost use Rattle.toml.specs.View.{table_view};
+ghost use Rattle.scenario_record.specs.Readings.{Answers};
+ghost use Rattle.scenario_read.specs.ReadQueries.{bound_types};
+ghost use Rattle.scenario_read.specs.ReadSystems.{heading, acts, body, system_of, system};
 
-use crate::fault::ScenarioFault;
-use crate::faults::under;
-use crate::keyed::truth_at;
-use crate::keys::value_of;
-use crate::shared::shared_at;
-use crate::type_lists::{Fitting, Named, type_list};
-use ent_types::{Part, Registry, Sequence, TypeSet};
+use crate::commands::CommandsForm;
+use crate::form::{Form, ListOf, optional, required};
+use crate::groups::{Placement, default_group, placement_of};
+use crate::keys::{NameForm, NumberForm, known_table};
+use crate::queries::{Clauses, Filters, bound_types, clauses_of, filters_of};
+use crate::texts::{AssignText, SwitchText, SystemText};
+use ent_types::limits::{MOST_ASSIGNS, MOST_FRAMES, MOST_SWITCHES};
+use ent_types::{Name, Registry, Sequence, TypeSet};
 use expr_trees::{Assign, Switch};
-use scenario_record::CommandEntry;
+use scenario_record::{Cause, CommandEntry, ScenarioFault, SystemEntry, bad};
 use std::alloc::Global;
 use toml::{Table, Value};
 
-/// The greatest number of types of a clause.
-const MOST_IN_CLAUSE: usize = 256;
+/// The keys of a system, in reading order.
+const KEYS: [&str; 20] = [
+    "name",
+    "group",
+    "before",
+    "after",
+    "first",
+    "last",
+    "every",
+    "all",
+    "any",
+    "none",
+    "disabled",
+    "absent",
+    "include_disabled",
+    "include_prefab",
+    "changed",
+    "order_changed",
+    "shared",
+    "set",
+    "enable",
+    "command",
+];
 
-/// The greatest number of types whose writes a system follows.
-const MOST_CHANGED: usize = 2;
-
-/// The five clauses of a query.
-#[derive(Clone, Copy, Debug)]
-pub(crate) struct Clauses {
-    /// The types that a row has, switched on.
-    pub(crate) all: TypeSet,
-    /// Types of which a row has one, switched on.
-    pub(crate) any: TypeSet,
-    /// Types of which a row has none that is switched on.
-    pub(crate) none: TypeSet,
-    /// The types that a row has, switched off.
-    pub(crate) disabled: TypeSet,
-    /// Types of which a row has none at all.
-    pub(crate) absent: TypeSet,
+/// Which system it is, and when it runs.
+#[derive(Drop)]
+struct Heading {
+    /// Its name.
+    name: Name,
+    /// The group that it is a child of.
+    group: Name,
+    /// Its place among its siblings.
+    placement: Placement,
+    /// It runs once in this number of frames.
+    every: u32,
 }
 
-/// Which rows and blocks are left out or taken besides.
-#[derive(Drop)]
-pub(crate) struct Filters {
-    /// Whether rows with the tag `Disabled` match too.
-    pub(crate) include_disabled: bool,
-    /// Whether rows with the tag `Prefab` match too.
-    pub(crate) include_prefab: bool,
-    /// The types of which one was written since the last run.
-    pub(crate) changed: TypeSet,
-    /// Whether blocks whose order of rows changed are visited too.
-    pub(crate) order_changed: bool,
-    /// The shared values that a visited block has.
-    pub(crate) shared: Sequence<Part>,
+fn heading_of(alloc: Global, table: &Table) -> Result<Heading, ScenarioFault>
+    ensures { Answers (heading (table_view table.now)) result }
+{
+    let frames = NumberForm {
+        low: 1,
+        high: MOST_FRAMES,
+    };
+    let name = required(alloc, "name", &NameForm, table)?;
+    let group = optional(alloc, "group", default_group(), &NameForm, table)?;
+    let placement = placement_of(alloc, table)?;
+    let every = optional(alloc, "every", 1, &frames, table)?;
+    Ok(Heading {
+        name,
+        group,
+        placement,
+        every,
+    })
 }
 
 /// What a system does with each row, in this order.
 #[derive(Drop)]
-pub(crate) struct Acts {
+struct Acts {
     /// What is written.
-    pub(crate) set: Sequence<Assign>,
-    /// What is switched on or off.
-    pub(crate) enable: Sequence<Switch>,
+    set: Sequence<Assign>,
+    /// What is enabled or disabled.
+    enable: Sequence<Switch>,
     /// What is recorded.
-    pub(crate) command: Sequence<CommandEntry>,
+    command: Sequence<CommandEntry>,
 }
 
-/// The types of a clause, which the clauses before it don't name.
-fn clause(
+/// Reads what a system does with each row, which has the bound types.
+fn acts_over(
     alloc: Global,
-    key: &str,
     registry: &Registry,
-    fitting: &Fitting,
-    taken: &TypeSet,
+    bound: &TypeSet,
     table: &Table,
-) -> Result<Named, ScenarioFault>
-    ensures { Answers (clause key.now registry.now (fits registry.now fitting.now) taken.now (table_view table.now)) result }
+) -> Result<Acts, ScenarioFault>
+    ensures { Answers (acts registry.now bound.now (table_view table.now)) result }
 {
-    match value_of(table, key) {
-        Some(value) => {
-            let found = type_list(alloc, MOST_IN_CLAUSE, registry, fitting, taken, value);
-            under(alloc, key, found)
+    let assigns = ListOf {
+        most: MOST_ASSIGNS,
+        item: SystemText {
+            kind: AssignText,
+            registry,
+            bound,
+            made: &[],
+        },
+    };
+    let switches = ListOf {
+        most: MOST_SWITCHES,
+        item: SystemText {
+            kind: SwitchText,
+            registry,
+            bound,
+            made: &[],
+        },
+    };
+    let commands = CommandsForm { registry, bound };
+    let set = optional(alloc, "set", Sequence::new(alloc), &assigns, table)?;
+    let enable = optional(alloc, "enable", Sequence::new(alloc), &switches, table)?;
+    let command = optional(alloc, "command", Sequence::new(alloc), &commands, table)?;
+    Ok(Acts {
+        set,
+        enable,
+        command,
+    })
+}
+
+/// Reads what a system does with each row that its clauses pick.
+fn acts_of(
+    alloc: Global,
+    registry: &Registry,
+    clauses: &Clauses,
+    table: &Table,
+) -> Result<Acts, ScenarioFault>
+    ensures { Answers (acts registry.now (bound_types clauses.now) (table_view table.now)) result }
+{
+    let bound = bound_types(clauses);
+    acts_over(alloc, registry, &bound, table)
+}
+
+/// Which rows a system visits, and what it does with them.
+#[derive(Drop)]
+struct Body {
+    /// The five clauses.
+    clauses: Clauses,
+    /// Which further rows match, and which blocks are skipped.
+    filters: Filters,
+    /// What is done with each row.
+    acts: Acts,
+}
+
+fn body_of(alloc: Global, registry: &Registry, table: &Table) -> Result<Body, ScenarioFault>
+    ensures { Answers (body registry.now (table_view table.now)) result }
+{
+    let clauses = clauses_of(alloc, registry, table)?;
+    let filters = filters_of(alloc, registry, &clauses.all, table)?;
+    let acts = acts_of(alloc, registry, &clauses, table)?;
+    Ok(Body {
+        clauses,
+        filters,
+        acts,
+    })
+}
+
+fn system_of(heading: Heading, body: Body) -> SystemEntry
+    ensures { result ≡ system_of heading body }
+{
+    let Heading {
+        name,
+        group,
+        placement,
+        every,
+    } = heading;
+    let Body {
+        clauses,
+        filters,
+        acts,
+    } = body;
+    SystemEntry {
+        name,
+        group,
+        before: placement.before,
+        after: placement.after,
+        first: placement.first,
+        last: placement.last,
+        every,
+        all: clauses.all,
+        any: clauses.any,
+        none: clauses.none,
+        disabled: clauses.disabled,
+        absent: clauses.absent,
+        include_disabled: filters.include_disabled,
+        include_prefab: filters.include_prefab,
+        changed: filters.changed,
+        order_changed: filters.order_changed,
+        shared: filters.shared,
+        set: acts.set,
+        enable: acts.enable,
+        command: acts.command,
+    }
+}
+
+/// A system.
+#[derive(Drop)]
+pub(crate) struct SystemForm<'a> {
+    /// The types.
+    pub(crate) registry: &'a Registry,
+}
+
+impl<'a> Form for SystemForm<'a> {
+    type Out = SystemEntry;
+
+    ghost reads = { λ it d. system it.registry.now d };
+
+    #[tactic(auto, unfolding(crate::specs::ReadSystems::system))]
+    fn read(&self, alloc: Global, value: &Value) -> Result<SystemEntry, ScenarioFault> {
+        let table = known_table(alloc, &KEYS, value)?;
+        let heading = heading_of(alloc, table)?;
+        let body = body_of(alloc, self.registry, table)?;
+        if heading.placement.is_in_two_bands() {
+            return Err(bad(alloc, Cause::BadShape));
         }
-        None => Ok(Named::beside(taken)),
+        Ok(system_of(heading, body))
     }
-}
-
-/// The five clauses of a query.
-pub(crate) fn clauses_of(
-    alloc: Global,
-    registry: &Registry,
-    table: &Table,
-) -> Result<Clauses, ScenarioFault>
-    ensures { Answers (clauses registry.now (table_view table.now)) result }
-{
-    let each = Fitting::Any;
-    let all = clause(alloc, "all", registry, &each, &TypeSet::empty(), table)?;
-    let any = clause(alloc, "any", registry, &each, &all.taken, table)?;
-    let none = clause(alloc, "none", registry, &each, &any.taken, table)?;
-    let switchable = Fitting::Enableable;
-    let disabled = clause(alloc, "disabled", registry, &switchable, &none.taken, table)?;
-    let absent = clause(alloc, "absent", registry, &each, &disabled.taken, table)?;
-    Ok(Clauses {
-        all: all.found,
-        any: any.found,
-        none: none.found,
-        disabled: disabled.found,
-        absent: absent.found,
-    })
-}
-
-/// The types that each visited row has.
-#[tactic(auto, using(crate::proofs::TypeLemmas::rising_first, crate::proofs::TypeLemmas::rising_rest))]
-pub(crate) fn bound_types(clauses: &Clauses) -> TypeSet
-    ensures { result ≡ bound_types clauses.now }
-{
-    let mut bound = clauses.all;
-    for ty in clauses.disabled.iter() {
-        bound = bound.with(ty);
-    }
-    bound
-}
-
-fn changed_types(
-    alloc: Global,
-    registry: &Registry,
-    all: &TypeSet,
-    value: &Value,
-) -> Result<TypeSet, ScenarioFault>
-    ensures { Answers (changed_types registry.now all.now (view value.now)) result }
-{
-    let fitting = Fitting::UnsharedOf(*all);
-    let none = TypeSet::empty();
-    let named = type_list(alloc, MOST_CHANGED, registry, &fitting, &none, value)?;
-    Ok(named.found)
-}
-
-fn changed_at(
-    alloc: Global,
-    registry: &Registry,
-    all: &TypeSet,
-    table: &Table,
-) -> Result<TypeSet, ScenarioFault>
-    ensures { Answers (optional (codes "changed") [] (changed_types registry.now all.now) (table_view table.now)) result }
-{
-    match value_of(table, "changed") {
-        Some(value) => under(alloc, "changed", changed_types(alloc, registry, all, value)),
-        None => Ok(TypeSet::empty()),
-    }
-}
-
-/// The keys that leave rows and blocks out, or take them besides.
-pub(crate) fn filters_of(
-    alloc: Global,
-    registry: &Registry,
-    all: &TypeSet,
-    table: &Table,
-) -> Result<Filters, ScenarioFault>
-    ensures { Answers (filters registry.now all.now (table_view table.now)) result }
-{
-    let include_disabled = truth_at(alloc, "include_disabled", table)?;
-    let include_prefab = truth_at(alloc, "include_prefab", table)?;
-    let changed = changed_at(alloc, registry, all, table)?;
-    let order_changed = truth_at(alloc, "order_changed", table)?;
-    let shared = shared_at(alloc, registry, all, table)?;
-    Ok(Filters {
-        include_disabled,
-        include_prefab,
-        changed,
-        order_changed,
-        shared,
-    })
 }

@@ -1,15 +1,15 @@
-//! The texts of a scenario.
-ghost use Rattle.std.specs.Prelude.{◌≡◌, [], Some, Result};
-ghost use Rattle.toml.specs.View.{view};
+//! The texts of a scenario, each with the scope that its place gives it.
+ghost use Rattle.std.specs.Prelude.{ℕ, ◌≡◌, [], List, Some, Result};
 ghost use Rattle.expr_grammar.specs.declared.fault.ExprFault.{ExprFault};
+ghost use Rattle.expr_grammar.specs.Answers.{Tells, expr_answer, ref_answer, assign_answer, switch_answer, command_answer};
+ghost use Rattle.expr_grammar.specs.Scopes.{Scope as Names};
 ghost use Rattle.expr_read.specs.declared.scope.TextPlace.TheVariants.{System};
 ghost use Rattle.expr_read.specs.ScopeOf.{scope_of};
-ghost use Rattle.expr_grammar.specs.Answers.{Tells, expr_answer, ref_answer, assign_answer, switch_answer, command_answer};
-ghost use Rattle.scenario_read.specs.declared.fault.ScenarioFault.TheVariants.{Bad};
-ghost use Rattle.scenario_read.specs.Faults.{Answers};
-ghost use Rattle.scenario_read.specs.ReadTexts.{IsTold, told, system_expr, system_assign, system_switch, system_command, spawn_expr, spawn_ref, event_command};
+ghost use Rattle.scenario_record.specs.declared.fault.ScenarioFault.TheVariants.{Bad};
+ghost use Rattle.scenario_record.specs.Readings.{Answers};
+ghost use Rattle.scenario_read.specs.ReadTexts.{IsTextFault, text_reading, system_text, spawn_expr, spawn_ref, event_command};
 
-use crate::fault::{BadScenario, Cause, ScenarioFault};
+use crate::form::Form;
 use crate::keys::text;
 use ent_types::{Registry, Sequence, TypeSet};
 use expr_read::{
@@ -17,10 +17,11 @@ use expr_read::{
     read_switch,
 };
 use expr_trees::{Assign, CommandText, Expr, RefExpr, Switch};
+use scenario_record::{BadScenario, Cause, ScenarioFault};
 use std::alloc::Global;
 use toml::Value;
 
-/// A fault of a text, at the place of its token at fault.
+/// Returns a fault of a text, at its invalid token.
 fn at_token(alloc: Global, cause: Cause, at: u32) -> ScenarioFault
     ensures { result ≡ Bad (record { cause = cause; key = []; at = Some at }) }
 {
@@ -31,9 +32,9 @@ fn at_token(alloc: Global, cause: Cause, at: u32) -> ScenarioFault
     })
 }
 
-/// The fault of a text as one of the scenario.
-fn fault_of(alloc: Global, fault: ExprFault) -> ScenarioFault
-    ensures { IsTold fault.cause fault.at result }
+/// Returns the fault of a text as one of the scenario.
+fn text_fault(alloc: Global, fault: ExprFault) -> ScenarioFault
+    ensures { IsTextFault fault.cause fault.at result }
 {
     match fault.cause {
         ExprCause::TooLong => at_token(alloc, Cause::TooLong, fault.at),
@@ -46,119 +47,135 @@ fn fault_of(alloc: Global, fault: ExprFault) -> ScenarioFault
     }
 }
 
-/// What a text is, or its fault as one of the scenario.
-fn told<T>(alloc: Global, found: Result<T, ExprFault>) -> Result<T, ScenarioFault>
-    ensures { (meant : Result T ExprFault) → Tells meant found → Answers (told meant) result }
+/// Returns the tree of a text, or its fault as one of the scenario.
+fn text_reading<T>(alloc: Global, found: Result<T, ExprFault>) -> Result<T, ScenarioFault>
+    ensures { (meant : Result T ExprFault) → Tells meant found → Answers (text_reading meant) result }
 {
     match found {
         Ok(tree) => Ok(tree),
-        Err(fault) => Err(fault_of(alloc, fault)),
+        Err(fault) => Err(text_fault(alloc, fault)),
     }
 }
 
-fn expr_in(alloc: Global, scope: &Scope, text: &str) -> Result<Expr, ScenarioFault>
-    ensures { Answers (told (expr_answer (scope_of scope.now.registry.now scope.now.place scope.now.bound.now scope.now.made.now) text.now)) result }
-{
-    told(alloc, read_expr(alloc, text, scope))
+/// A kind of text.
+pub(crate) trait Text {
+    /// What such a text is.
+    type Tree: Drop;
+
+    // What a text is in a scope, or its fault.
+    ghost answer: { Names → List ℕ → Result Self.Tree ExprFault };
+
+    /// Reads a text, or returns its fault.
+    fn read_in(&self, alloc: Global, scope: &Scope, text: &str) -> Result<Self::Tree, ScenarioFault>
+        ensures { Answers (text_reading (answer (scope_of scope.now.registry.now scope.now.place scope.now.bound.now scope.now.made.now) text.now)) result };
 }
 
-fn ref_in(alloc: Global, scope: &Scope, text: &str) -> Result<RefExpr, ScenarioFault>
-    ensures { Answers (told (ref_answer (scope_of scope.now.registry.now scope.now.place scope.now.bound.now scope.now.made.now) text.now)) result }
-{
-    told(alloc, read_ref(alloc, text, scope))
-}
+/// An expression.
+#[derive(Drop)]
+pub(crate) struct ExprText;
 
-fn assign_in(alloc: Global, scope: &Scope, text: &str) -> Result<Assign, ScenarioFault>
-    ensures { Answers (told (assign_answer (scope_of scope.now.registry.now scope.now.place scope.now.bound.now scope.now.made.now) text.now)) result }
-{
-    told(alloc, read_assign(alloc, text, scope))
-}
+/// A reference.
+#[derive(Drop)]
+struct RefText;
 
-fn switch_in(alloc: Global, scope: &Scope, text: &str) -> Result<Switch, ScenarioFault>
-    ensures { Answers (told (switch_answer (scope_of scope.now.registry.now scope.now.place scope.now.bound.now scope.now.made.now) text.now)) result }
-{
-    told(alloc, read_switch(alloc, text, scope))
-}
+/// An assignment of a system.
+#[derive(Drop)]
+pub(crate) struct AssignText;
 
-fn command_in(alloc: Global, scope: &Scope, text: &str) -> Result<CommandText, ScenarioFault>
-    ensures { Answers (told (command_answer (scope_of scope.now.registry.now scope.now.place scope.now.bound.now scope.now.made.now) text.now)) result }
-{
-    told(alloc, read_command(alloc, text, scope))
-}
+/// A switch of a system.
+#[derive(Drop)]
+pub(crate) struct SwitchText;
 
-/// Where a text of a system stands.
-fn in_system<'a>(registry: &'a Registry, bound: &'a TypeSet, made: &'a [Made]) -> Scope<'a>
-    ensures registry { result.registry.now ≡ registry.now }
-    ensures place { result.place ≡ System }
-    ensures bound { result.bound.now ≡ bound.now }
-    ensures made { result.made.now ≡ made.now }
-{
-    Scope {
-        registry,
-        place: TextPlace::System,
-        bound,
-        made,
+/// A command of a system or an event.
+#[derive(Drop)]
+pub(crate) struct ActText;
+
+impl Text for ExprText {
+    type Tree = Expr;
+
+    ghost answer = { λ names text. expr_answer names text };
+
+    fn read_in(&self, alloc: Global, scope: &Scope, text: &str) -> Result<Expr, ScenarioFault> {
+        text_reading(alloc, read_expr(alloc, text, scope))
     }
 }
 
-/// The expression of a system that a value is.
-pub(crate) fn system_expr(
-    alloc: Global,
-    registry: &Registry,
-    bound: &TypeSet,
-    value: &Value,
-) -> Result<Expr, ScenarioFault>
-    ensures { Answers (system_expr registry.now bound.now (view value.now)) result }
-{
-    let text = text(alloc, value)?;
-    let scope = in_system(registry, bound, &[]);
-    expr_in(alloc, &scope, text)
+impl Text for RefText {
+    type Tree = RefExpr;
+
+    ghost answer = { λ names text. ref_answer names text };
+
+    fn read_in(&self, alloc: Global, scope: &Scope, text: &str) -> Result<RefExpr, ScenarioFault> {
+        text_reading(alloc, read_ref(alloc, text, scope))
+    }
 }
 
-/// The assign of a system that a value is.
-pub(crate) fn system_assign(
-    alloc: Global,
-    registry: &Registry,
-    bound: &TypeSet,
-    value: &Value,
-) -> Result<Assign, ScenarioFault>
-    ensures { Answers (system_assign registry.now bound.now (view value.now)) result }
-{
-    let text = text(alloc, value)?;
-    let scope = in_system(registry, bound, &[]);
-    assign_in(alloc, &scope, text)
+impl Text for AssignText {
+    type Tree = Assign;
+
+    ghost answer = { λ names text. assign_answer names text };
+
+    fn read_in(&self, alloc: Global, scope: &Scope, text: &str) -> Result<Assign, ScenarioFault> {
+        text_reading(alloc, read_assign(alloc, text, scope))
+    }
 }
 
-/// The switch of a system that a value is.
-pub(crate) fn system_switch(
-    alloc: Global,
-    registry: &Registry,
-    bound: &TypeSet,
-    value: &Value,
-) -> Result<Switch, ScenarioFault>
-    ensures { Answers (system_switch registry.now bound.now (view value.now)) result }
-{
-    let text = text(alloc, value)?;
-    let scope = in_system(registry, bound, &[]);
-    switch_in(alloc, &scope, text)
+impl Text for SwitchText {
+    type Tree = Switch;
+
+    ghost answer = { λ names text. switch_answer names text };
+
+    fn read_in(&self, alloc: Global, scope: &Scope, text: &str) -> Result<Switch, ScenarioFault> {
+        text_reading(alloc, read_switch(alloc, text, scope))
+    }
 }
 
-/// The command of a system that a value is, where earlier ones make these names.
-pub(crate) fn system_command(
-    alloc: Global,
-    registry: &Registry,
-    bound: &TypeSet,
-    made: &[Made],
-    value: &Value,
-) -> Result<CommandText, ScenarioFault>
-    ensures { Answers (system_command registry.now bound.now made.now (view value.now)) result }
-{
-    let text = text(alloc, value)?;
-    let scope = in_system(registry, bound, made);
-    command_in(alloc, &scope, text)
+impl Text for ActText {
+    type Tree = CommandText;
+
+    ghost answer = { λ names text. command_answer names text };
+
+    fn read_in(
+        &self,
+        alloc: Global,
+        scope: &Scope,
+        text: &str,
+    ) -> Result<CommandText, ScenarioFault> {
+        text_reading(alloc, read_command(alloc, text, scope))
+    }
 }
 
-/// Where a text stands that sees no row.
+/// A text of a system.
+#[derive(Drop)]
+pub(crate) struct SystemText<'a, T> {
+    /// The kind of text.
+    pub(crate) kind: T,
+    /// The types.
+    pub(crate) registry: &'a Registry,
+    /// The types that each row has.
+    pub(crate) bound: &'a TypeSet,
+    /// What earlier commands make.
+    pub(crate) made: &'a [Made],
+}
+
+impl<'a, T: Text> Form for SystemText<'a, T> {
+    type Out = T::Tree;
+
+    ghost reads = { λ it d. system_text T.answer it.registry.now it.bound.now it.made.now d };
+
+    fn read(&self, alloc: Global, value: &Value) -> Result<T::Tree, ScenarioFault> {
+        let text = text(alloc, value)?;
+        let scope = Scope {
+            registry: self.registry,
+            place: TextPlace::System,
+            bound: self.bound,
+            made: self.made,
+        };
+        self.kind.read_in(alloc, &scope, text)
+    }
+}
+
+/// Returns the scope of a text that sees no row.
 fn outside<'a>(registry: &'a Registry, place: TextPlace, none: &'a TypeSet) -> Scope<'a>
     requires { none.now ≡ [] }
     ensures registry { result.registry.now ≡ registry.now }
@@ -174,7 +191,7 @@ fn outside<'a>(registry: &'a Registry, place: TextPlace, none: &'a TypeSet) -> S
     }
 }
 
-/// The expression of a spawn that a text is.
+/// Reads an expression of a spawn.
 pub(crate) fn spawn_expr(
     alloc: Global,
     registry: &Registry,
@@ -184,10 +201,10 @@ pub(crate) fn spawn_expr(
 {
     let none = TypeSet::empty();
     let scope = outside(registry, TextPlace::Spawn, &none);
-    expr_in(alloc, &scope, text)
+    ExprText.read_in(alloc, &scope, text)
 }
 
-/// The reference of a spawn that a text is.
+/// Reads a reference of a spawn.
 pub(crate) fn spawn_ref(
     alloc: Global,
     registry: &Registry,
@@ -197,19 +214,25 @@ pub(crate) fn spawn_ref(
 {
     let none = TypeSet::empty();
     let scope = outside(registry, TextPlace::Spawn, &none);
-    ref_in(alloc, &scope, text)
+    RefText.read_in(alloc, &scope, text)
 }
 
-/// The command of an event that a value is.
-pub(crate) fn event_command(
-    alloc: Global,
-    registry: &Registry,
-    value: &Value,
-) -> Result<CommandText, ScenarioFault>
-    ensures { Answers (event_command registry.now (view value.now)) result }
-{
-    let text = text(alloc, value)?;
-    let none = TypeSet::empty();
-    let scope = outside(registry, TextPlace::Event, &none);
-    command_in(alloc, &scope, text)
+/// A command of an event.
+#[derive(Drop)]
+pub(crate) struct OperationForm<'a> {
+    /// The types.
+    pub(crate) registry: &'a Registry,
+}
+
+impl<'a> Form for OperationForm<'a> {
+    type Out = CommandText;
+
+    ghost reads = { λ it d. event_command it.registry.now d };
+
+    fn read(&self, alloc: Global, value: &Value) -> Result<CommandText, ScenarioFault> {
+        let text = text(alloc, value)?;
+        let none = TypeSet::empty();
+        let scope = outside(self.registry, TextPlace::Event, &none);
+        ActText.read_in(alloc, &scope, text)
+    }
 }

@@ -1,69 +1,52 @@
 //! Lists of type names, and the tables whose keys are type names.
-ghost use Rattle.std.specs.Prelude.{◌≡◌, ◌<◌, length, IfOk, IfSome};
-ghost use Rattle.toml.specs.View.{view, items_view};
-ghost use Rattle.ent_types.specs.Registries.{type_id_named};
-ghost use Rattle.expr_read.specs.ScopeOf.{is_shared};
-ghost use Rattle.scenario_read.specs.Faults.{Answers, AnswersAs};
-ghost use Rattle.scenario_read.specs.ReadTypeLists.{fitting_type, known_type, type_of_key, new_type_in, type_of_item, types_from, beside, found_one, type_list};
-ghost use Rattle.scenario_read.specs.Fits.{fits};
+ghost use Rattle.std.specs.Prelude.{◌≡◌, ◌<◌, length, IfOk};
+ghost use Rattle.toml.specs.View.{view};
+ghost use Rattle.scenario_record.specs.Readings.{Answers, AnswersAs};
+ghost use Rattle.scenario_read.specs.ReadTypeLists.{is_allowed, allowed_type, known_type, type_of_key, new_type_in, type_of_item, one_more_type, none_beside, found_one, type_list};
 
-use crate::fault::{Cause, ScenarioFault};
-use crate::faults::{bad, below_place};
-use crate::keys::{list_up_to, name, name_in};
-use ent_types::{Kind, Name, Registry, TypeId, TypeSet};
+use crate::form::{Form, Step, each_over};
+use crate::keys::{NameForm, list_up_to, name_in};
+use ent_types::limits::MOST_TYPES;
+use ent_types::{Name, Registry, TypeId, TypeSet};
+use scenario_record::{Cause, ScenarioFault, bad};
 use std::alloc::Global;
 use toml::Value;
 
-/// Which types may stand at a place.
+/// Which types are allowed at a place.
 #[derive(Clone, Copy, Debug)]
-pub(crate) enum Fitting {
+pub(crate) enum Allowed {
     /// Each type.
-    Any,
-    /// Each type but the one that tells the load of a row.
+    AnyType,
+    /// Each type but `SceneTag`, which only the load of a scene gives.
     Spawned,
-    /// Those that can be switched off in a row.
+    /// Enableable types.
     Enableable,
     /// Those of a set that aren't shared.
     UnsharedOf(TypeSet),
     /// The shared ones of a set.
     SharedOf(TypeSet),
-    /// Those of a set that can be switched off in a row.
-    SwitchableOf(TypeSet),
+    /// The enableable ones of a set.
+    EnableableOf(TypeSet),
 }
 
-/// The number of the type that tells the load of a row.
-const SCENE_TAG: u16 = 2;
-
-fn is_shared(kind: Kind) -> bool
-    ensures { result ≡ is_shared kind }
-{
-    match kind {
-        Kind::Shared => true,
-        Kind::Plain => false,
-        Kind::Tag => false,
-        Kind::Cleanup => false,
-    }
-}
-
-impl Fitting {
-    /// Says whether a type may stand there.
-    fn takes(&self, registry: &Registry, ty: TypeId) -> bool
-        requires known { ty.0 < length registry.now }
-        requires small { ty.0 < 256 }
-        ensures { result ≡ fits registry.now self.now ty.0 }
+impl Allowed {
+    /// `true` if a type is allowed here.
+    fn allows(&self, registry: &Registry, ty: TypeId) -> bool
+        requires { ty.0 < MOST_TYPES }
+        ensures { result ≡ is_allowed registry.now self.now ty.0 }
     {
         match self {
-            Fitting::Any => true,
-            Fitting::Spawned => ty.0 != SCENE_TAG,
-            Fitting::Enableable => registry.info(ty).enableable,
-            Fitting::UnsharedOf(types) => types.has(ty) && !is_shared(registry.info(ty).kind),
-            Fitting::SharedOf(types) => types.has(ty) && is_shared(registry.info(ty).kind),
-            Fitting::SwitchableOf(types) => types.has(ty) && registry.info(ty).enableable,
+            Allowed::AnyType => true,
+            Allowed::Spawned => ty.0 != TypeId::SCENE_TAG.0,
+            Allowed::Enableable => registry.is_enableable(ty),
+            Allowed::UnsharedOf(types) => types.has(ty) && !registry.is_shared(ty),
+            Allowed::SharedOf(types) => types.has(ty) && registry.is_shared(ty),
+            Allowed::EnableableOf(types) => types.has(ty) && registry.is_enableable(ty),
         }
     }
 }
 
-/// The types that a list names, beside those that were taken before it.
+/// The types that a list names, and those that may not be named again.
 #[derive(Clone, Copy, Debug)]
 pub(crate) struct Named {
     /// What was taken before, and what was found.
@@ -73,9 +56,9 @@ pub(crate) struct Named {
 }
 
 impl Named {
-    /// Nothing is found yet.
-    pub(crate) fn beside(taken: &TypeSet) -> Named
-        ensures { result ≡ beside taken.now }
+    /// Returns the start of a list: nothing is found yet.
+    pub(crate) fn none_beside(taken: &TypeSet) -> Named
+        ensures { result ≡ none_beside taken.now }
     {
         Named {
             taken: *taken,
@@ -83,9 +66,9 @@ impl Named {
         }
     }
 
-    /// One more type is found.
+    /// Returns this with one more type.
     fn with(&self, ty: TypeId) -> Named
-        requires { ty.0 < 256 }
+        requires { ty.0 < MOST_TYPES }
         ensures { result ≡ found_one self.now ty.0 }
     {
         Named {
@@ -95,28 +78,18 @@ impl Named {
     }
 }
 
-/// The type with a name. A registry has at most 256 types.
-fn find(registry: &Registry, name: &Name) -> Option<TypeId>
-    ensures place { result ≡ type_id_named registry.now name.now }
-    ensures within { IfSome result (λ ty. (ty.0 < length registry.now) × (ty.0 < 256)) }
-{
-    let _most = registry.len();
-    registry.find(name)
-}
-
-/// Passes a type that may stand there.
-fn fitting_type(
+/// Checks that a type is allowed here.
+fn allowed_type(
     alloc: Global,
     registry: &Registry,
-    fitting: &Fitting,
+    allowed: &Allowed,
     ty: TypeId,
 ) -> Result<TypeId, ScenarioFault>
-    requires known { ty.0 < length registry.now }
-    requires small { ty.0 < 256 }
-    ensures answer { AnswersAs (λ ty. ty.0) (fitting_type (fits registry.now fitting.now) ty.0) result }
+    requires { ty.0 < MOST_TYPES }
+    ensures answer { AnswersAs (λ ty. ty.0) (allowed_type registry.now allowed.now ty.0) result }
     ensures same { IfOk result (λ found. found ≡ ty) }
 {
-    if !fitting.takes(registry, ty) {
+    if !allowed.allows(registry, ty) {
         return Err(bad(alloc, Cause::BadKind));
     }
     Ok(ty)
@@ -125,35 +98,35 @@ fn fitting_type(
 fn known_type(
     alloc: Global,
     registry: &Registry,
-    fitting: &Fitting,
+    allowed: &Allowed,
     name: &Name,
 ) -> Result<TypeId, ScenarioFault>
-    ensures answer { AnswersAs (λ ty. ty.0) (known_type registry.now (fits registry.now fitting.now) name.now) result }
-    ensures within { IfOk result (λ ty. (ty.0 < length registry.now) × (ty.0 < 256)) }
+    ensures answer { AnswersAs (λ ty. ty.0) (known_type registry.now allowed.now name.now) result }
+    ensures within { IfOk result (λ ty. (ty.0 < length registry.now) × (ty.0 < MOST_TYPES)) }
 {
-    match find(registry, name) {
-        Some(ty) => fitting_type(alloc, registry, fitting, ty),
+    match registry.find(name) {
+        Some(ty) => allowed_type(alloc, registry, allowed, ty),
         None => Err(bad(alloc, Cause::UnknownName)),
     }
 }
 
-/// The type that a key names.
+/// Reads the type that a key names.
 pub(crate) fn type_of_key(
     alloc: Global,
     registry: &Registry,
-    fitting: &Fitting,
+    allowed: &Allowed,
     key: &str,
 ) -> Result<TypeId, ScenarioFault>
-    ensures answer { AnswersAs (λ ty. ty.0) (type_of_key registry.now (fits registry.now fitting.now) key.now) result }
-    ensures within { IfOk result (λ ty. (ty.0 < length registry.now) × (ty.0 < 256)) }
+    ensures answer { AnswersAs (λ ty. ty.0) (type_of_key registry.now allowed.now key.now) result }
+    ensures within { IfOk result (λ ty. (ty.0 < length registry.now) × (ty.0 < MOST_TYPES)) }
 {
     let name = name_in(alloc, key)?;
-    known_type(alloc, registry, fitting, &name)
+    known_type(alloc, registry, allowed, &name)
 }
 
-/// Passes a type that isn't taken.
+/// Checks that a type isn't taken.
 fn new_type_in(alloc: Global, taken: &TypeSet, ty: TypeId) -> Result<TypeId, ScenarioFault>
-    requires { ty.0 < 256 }
+    requires { ty.0 < MOST_TYPES }
     ensures answer { AnswersAs (λ ty. ty.0) (new_type_in taken.now ty.0) result }
     ensures same { IfOk result (λ found. found ≡ ty) }
 {
@@ -166,49 +139,68 @@ fn new_type_in(alloc: Global, taken: &TypeSet, ty: TypeId) -> Result<TypeId, Sce
 fn type_of_item(
     alloc: Global,
     registry: &Registry,
-    fitting: &Fitting,
+    allowed: &Allowed,
     taken: &TypeSet,
     value: &Value,
 ) -> Result<TypeId, ScenarioFault>
-    ensures answer { AnswersAs (λ ty. ty.0) (type_of_item registry.now (fits registry.now fitting.now) taken.now (view value.now)) result }
-    ensures within { IfOk result (λ ty. ty.0 < 256) }
+    ensures answer { AnswersAs (λ ty. ty.0) (type_of_item registry.now allowed.now taken.now (view value.now)) result }
+    ensures within { IfOk result (λ ty. ty.0 < MOST_TYPES) }
 {
-    let name = name(alloc, value)?;
-    let ty = known_type(alloc, registry, fitting, &name)?;
+    let name = NameForm.read(alloc, value)?;
+    let ty = known_type(alloc, registry, allowed, &name)?;
     new_type_in(alloc, taken, ty)
 }
 
-/// The types that the values name, each once and none of those that were taken before.
-pub(crate) fn each_type(
-    alloc: Global,
-    registry: &Registry,
-    fitting: &Fitting,
-    taken: &TypeSet,
-    values: &[Value],
-) -> Result<Named, ScenarioFault>
-    ensures { Answers (types_from registry.now (fits registry.now fitting.now) (beside taken.now) 0 (items_view values.now)) result }
-{
-    let mut named = Named::beside(taken);
-    for (i, value) in values.iter().enumerate() {
-        match type_of_item(alloc, registry, fitting, &named.taken, value) {
-            Ok(ty) => named = named.with(ty),
-            Err(fault) => return Err(below_place(alloc, i, fault)),
-        }
-    }
-    Ok(named)
+/// The types that the values of a list name, each once.
+#[derive(Drop)]
+pub(crate) struct TypeStep<'a> {
+    /// The types.
+    pub(crate) registry: &'a Registry,
+    /// Which types are allowed.
+    pub(crate) allowed: &'a Allowed,
 }
 
-/// The types of a list of at most so many.
-pub(crate) fn type_list(
-    alloc: Global,
-    most: usize,
-    registry: &Registry,
-    fitting: &Fitting,
-    taken: &TypeSet,
-    value: &Value,
-) -> Result<Named, ScenarioFault>
-    ensures { Answers (type_list most registry.now (fits registry.now fitting.now) taken.now (view value.now)) result }
-{
-    let values = list_up_to(alloc, most, value)?;
-    each_type(alloc, registry, fitting, taken, values)
+impl<'a> Step for TypeStep<'a> {
+    type State = Named;
+
+    ghost steps = { λ it named d. one_more_type it.registry.now it.allowed.now named d };
+
+    fn step(
+        &self,
+        alloc: Global,
+        _place: usize,
+        named: Named,
+        value: &Value,
+    ) -> Result<Named, ScenarioFault> {
+        let ty = type_of_item(alloc, self.registry, self.allowed, &named.taken, value)?;
+        Ok(named.with(ty))
+    }
+}
+
+/// A list of at most `most` types.
+#[derive(Drop)]
+pub(crate) struct TypesForm<'a> {
+    /// The greatest number of types.
+    pub(crate) most: usize,
+    /// The types.
+    pub(crate) registry: &'a Registry,
+    /// Which types are allowed.
+    pub(crate) allowed: &'a Allowed,
+    /// Those that may not be named again.
+    pub(crate) taken: &'a TypeSet,
+}
+
+impl<'a> Form for TypesForm<'a> {
+    type Out = Named;
+
+    ghost reads = { λ it d. type_list it.most it.registry.now it.allowed.now it.taken.now d };
+
+    fn read(&self, alloc: Global, value: &Value) -> Result<Named, ScenarioFault> {
+        let values = list_up_to(alloc, self.most, value)?;
+        let step = TypeStep {
+            registry: self.registry,
+            allowed: self.allowed,
+        };
+        each_over(alloc, &step, Named::none_beside(self.taken), values)
+    }
 }

@@ -1,78 +1,160 @@
 //! Types, as a scenario declares them.
-ghost use Rattle.std.specs.Prelude.{◌≡◌, ◌≤◌, [], ◌∷◌, ◌++◌, codes, length, None, IfOk, IsTrue, OnOk};
-ghost use Rattle.toml.specs.View.{view, items_view, table_view};
-ghost use Rattle.ent_types.specs.Types.{is_lawful_type};
+ghost use Rattle.std.specs.Prelude.{◌≡◌, ◌≤◌, ◌<◌, ◌+◌, ◌-◌, ◌∷◌, ◌++◌, [], codes, length, None, IfOk, IsTrue, OnOk};
+ghost use Rattle.std.specs.List.{list_any};
+ghost use Rattle.toml.specs.View.{view, table_view};
+ghost use Rattle.ent_types.specs.declared.entity.TheConstants.{BUILT_IN_TYPES};
+ghost use Rattle.ent_types.specs.declared.limits.TheConstants.{MOST_FIELDS, MOST_TYPES};
+ghost use Rattle.ent_types.specs.Types.{same_name, is_lawful_type};
 ghost use Rattle.ent_types.specs.Refusals.{refusal};
 ghost use Rattle.ent_types.specs.Registries.{type_named, built_in_types};
-ghost use Rattle.scenario_read.specs.declared.fault.Cause.TheVariants.{BadWord};
-ghost use Rattle.ent_types.specs.declared.kinds.Kind.TheVariants.{Plain};
-ghost use Rattle.scenario_read.specs.Faults.{Answers, and_then, or_fault};
-ghost use Rattle.scenario_read.specs.ReadKeys.{optional, members};
-ghost use Rattle.scenario_read.specs.ReadTypes.{kind_named, kind, new_type, type_keys, type_table, types_from, registry_of};
+ghost use Rattle.scenario_record.specs.Readings.{Answers};
+ghost use Rattle.scenario_read.specs.ReadKeys.{optional};
+ghost use Rattle.scenario_read.specs.ReadTypes.{kind, field_kind_named, field_of_kind, field_named, new_field, field_in, one_more_field, fields, new_type, type_keys, type_in, one_more_type, registry_of};
 
-use crate::fault::{Cause, ScenarioFault};
-use crate::faults::{at_place, bad, below_key, under};
-use crate::fields::fields_at;
-use crate::keyed::{own_name, truth_at};
-use crate::keys::{list_up_to, members, only_known, text, value_of};
-use ent_types::{Kind, Memory, Registry, RegistryFault, TypeInfo};
+use crate::form::{Form, Step, each_over, optional, required, under};
+use crate::keys::{NameForm, TruthForm, known_table, list_up_to, text, value_of};
+use ent_types::limits::{MOST_FIELDS, MOST_TYPES};
+use ent_types::{
+    BUILT_IN_TYPES, FieldInfo, FieldKind, Kind, Memory, Name, Registry, RegistryFault, Sequence,
+    TypeInfo,
+};
+use scenario_record::{Cause, ScenarioFault, bad, below_key};
 use std::alloc::Global;
 use toml::{Table, Value};
 
-/// The greatest number of declared types: with the built-in ones there are 256.
-const MOST_TYPES: usize = 253;
+// ---- the kind of a type
 
-fn kind_named(text: &str) -> Option<Kind>
-    ensures { result ≡ kind_named text.now }
+/// The kind of a type.
+#[derive(Drop)]
+struct KindForm;
+
+impl Form for KindForm {
+    type Out = Kind;
+
+    ghost reads = { λ _ d. kind d };
+
+    fn read(&self, alloc: Global, value: &Value) -> Result<Kind, ScenarioFault> {
+        match text(alloc, value)? {
+            "plain" => Ok(Kind::Plain),
+            "tag" => Ok(Kind::Tag),
+            "shared" => Ok(Kind::Shared),
+            "cleanup" => Ok(Kind::Cleanup),
+            _ => Err(bad(alloc, Cause::BadWord)),
+        }
+    }
+}
+
+// ---- the fields of a type
+
+fn field_kind_named(text: &[u8]) -> Option<FieldKind>
+    ensures { result ≡ field_kind_named text.now }
 {
-    if text == "plain" {
-        return Some(Kind::Plain);
+    if text == b":i32".as_slice() {
+        return Some(FieldKind::I32);
     }
-    if text == "tag" {
-        return Some(Kind::Tag);
+    if text == b":i64".as_slice() {
+        return Some(FieldKind::I64);
     }
-    if text == "shared" {
-        return Some(Kind::Shared);
-    }
-    if text == "cleanup" {
-        return Some(Kind::Cleanup);
+    if text == b":ref".as_slice() {
+        return Some(FieldKind::Ref);
     }
     None
 }
 
-fn kind_in(alloc: Global, text: &str) -> Result<Kind, ScenarioFault>
-    ensures { Answers (or_fault BadWord (kind_named text.now)) result }
+fn field_of_kind(name: &[u8], kind: Option<FieldKind>) -> Option<FieldInfo>
+    ensures { result ≡ field_of_kind name.now kind }
 {
-    match kind_named(text) {
-        Some(kind) => Ok(kind),
+    let kind = kind?;
+    let name = Name::of(name)?;
+    Some(FieldInfo { name, kind })
+}
+
+/// Returns the field that a text declares, as `name:kind`.
+fn field_named(text: &str) -> Option<FieldInfo>
+    ensures { result ≡ field_named text.now }
+{
+    let bytes = text.as_bytes();
+    let (name, kind) = bytes.split_at(bytes.len().saturating_sub(4));
+    field_of_kind(name, field_kind_named(kind))
+}
+
+fn has_field(fields: &[FieldInfo], name: &Name) -> bool
+    ensures { result ≡ list_any (λ f. same_name name.now f.name) fields.now }
+{
+    fields.iter().any(|field| *name == field.name)
+}
+
+/// Checks that no earlier field has the name.
+fn new_field(
+    alloc: Global,
+    earlier: &[FieldInfo],
+    field: FieldInfo,
+) -> Result<FieldInfo, ScenarioFault>
+    ensures { Answers (new_field earlier.now field) result }
+{
+    if has_field(earlier, &field.name) {
+        return Err(bad(alloc, Cause::DuplicateName));
+    }
+    Ok(field)
+}
+
+fn field_in(alloc: Global, earlier: &[FieldInfo], text: &str) -> Result<FieldInfo, ScenarioFault>
+    ensures { Answers (field_in earlier.now text.now) result }
+{
+    match field_named(text) {
+        Some(field) => new_field(alloc, earlier, field),
         None => Err(bad(alloc, Cause::BadWord)),
     }
 }
 
-fn kind(alloc: Global, value: &Value) -> Result<Kind, ScenarioFault>
-    ensures { Answers (kind (view value.now)) result }
-{
-    let text = text(alloc, value)?;
-    kind_in(alloc, text)
-}
+/// The fields of a type.
+#[derive(Drop)]
+struct FieldsForm;
 
-fn kind_at(alloc: Global, table: &Table) -> Result<Kind, ScenarioFault>
-    ensures { Answers (optional (codes "kind") Plain kind (table_view table.now)) result }
-{
-    match value_of(table, "kind") {
-        Some(value) => under(alloc, "kind", kind(alloc, value)),
-        None => Ok(Kind::Plain),
+impl Step for FieldsForm {
+    type State = Sequence<FieldInfo>;
+
+    ghost steps = { λ _ earlier d. one_more_field earlier d };
+
+    ghost counts = { λ i fields. length fields ≡ i };
+
+    fn step(
+        &self,
+        alloc: Global,
+        _place: usize,
+        mut fields: Sequence<FieldInfo>,
+        value: &Value,
+    ) -> Result<Sequence<FieldInfo>, ScenarioFault> {
+        let text = text(alloc, value)?;
+        let field = field_in(alloc, fields.as_slice(), text)?;
+        fields.push(field)?;
+        Ok(fields)
     }
 }
 
+impl Form for FieldsForm {
+    type Out = Sequence<FieldInfo>;
+
+    ghost reads = { λ _ d. fields d };
+
+    ghost sound = { λ _ fields. length fields ≤ MOST_FIELDS };
+
+    fn read(&self, alloc: Global, value: &Value) -> Result<Sequence<FieldInfo>, ScenarioFault> {
+        let values = list_up_to(alloc, MOST_FIELDS, value)?;
+        each_over(alloc, self, Sequence::new(alloc), values)
+    }
+}
+
+// ---- a type
+
 fn type_keys(alloc: Global, table: &Table) -> Result<TypeInfo, ScenarioFault>
     ensures answer { Answers (type_keys (table_view table.now)) result }
-    ensures few { IfOk result (λ info. length info.fields ≤ 64) }
+    ensures few { IfOk result (λ info. length info.fields ≤ MOST_FIELDS) }
 {
-    let name = own_name(alloc, table)?;
-    let kind = kind_at(alloc, table)?;
-    let fields = fields_at(alloc, table)?;
-    let enableable = truth_at(alloc, "enableable", table)?;
+    let name = required(alloc, "name", &NameForm, table)?;
+    let kind = optional(alloc, "kind", Kind::Plain, &KindForm, table)?;
+    let fields = optional(alloc, "fields", Sequence::new(alloc), &FieldsForm, table)?;
+    let enableable = optional(alloc, "enableable", false, &TruthForm, table)?;
     Ok(TypeInfo {
         name,
         kind,
@@ -81,7 +163,7 @@ fn type_keys(alloc: Global, table: &Table) -> Result<TypeInfo, ScenarioFault>
     })
 }
 
-/// Passes a type that is well formed and has a new name.
+/// Checks that a type is well formed and has a new name.
 fn new_type(alloc: Global, registry: &Registry, info: TypeInfo) -> Result<TypeInfo, ScenarioFault>
     ensures answer { Answers (new_type registry.now info) result }
     ensures same { IfOk result (λ new. new ≡ info) }
@@ -98,29 +180,23 @@ fn new_type(alloc: Global, registry: &Registry, info: TypeInfo) -> Result<TypeIn
     Ok(info)
 }
 
-#[tactic(auto, unfolding(crate::specs::ReadTypes::type_table))]
-fn type_table(alloc: Global, registry: &Registry, table: &Table) -> Result<TypeInfo, ScenarioFault>
-    ensures answer { Answers (type_table registry.now (table_view table.now)) result }
-    ensures few { IfOk result (λ new. length new.fields ≤ 64) }
+/// Reads a type, over those before it.
+#[tactic(auto, unfolding(crate::specs::ReadTypes::type_in))]
+fn type_in(alloc: Global, registry: &Registry, value: &Value) -> Result<TypeInfo, ScenarioFault>
+    ensures answer { Answers (type_in registry.now (view value.now)) result }
+    ensures few { IfOk result (λ new. length new.fields ≤ MOST_FIELDS) }
     ensures lawful { IfOk result (λ new. IsTrue (is_lawful_type new)) }
     ensures welcome { IfOk result (λ new. type_named registry.now new.name ≡ None) }
 {
-    only_known(alloc, &["name", "kind", "fields", "enableable"], table)?;
+    let known = ["name", "kind", "fields", "enableable"];
+    let table = known_table(alloc, &known, value)?;
     let info = type_keys(alloc, table)?;
     new_type(alloc, registry, info)
 }
 
-fn type_in(alloc: Global, registry: &Registry, value: &Value) -> Result<TypeInfo, ScenarioFault>
-    ensures answer { Answers (and_then (type_table registry.now) (members (view value.now))) result }
-    ensures few { IfOk result (λ new. length new.fields ≤ 64) }
-    ensures lawful { IfOk result (λ new. IsTrue (is_lawful_type new)) }
-    ensures welcome { IfOk result (λ new. type_named registry.now new.name ≡ None) }
-{
-    let table = members(alloc, value)?;
-    type_table(alloc, registry, table)
-}
+// ---- the types of a scenario
 
-/// Puts a type last that the registry doesn't refuse.
+/// Adds a type that the registry doesn't refuse.
 fn add(registry: &mut Registry, info: TypeInfo) -> Result<(), Memory>
     requires lawful { IsTrue (is_lawful_type info) }
     requires welcome { refusal registry.old info ≡ None }
@@ -135,33 +211,49 @@ fn add(registry: &mut Registry, info: TypeInfo) -> Result<(), Memory>
     }
 }
 
-/// The built-in types, and then those of a list, each read over those before it.
-#[tactic(auto, using(crate::proofs::TypeLemmas::no_refusal))]
-fn each_type(alloc: Global, values: &[Value]) -> Result<Registry, ScenarioFault>
-    requires { length values.now ≤ 253 }
-    ensures { Answers (types_from built_in_types 0 (items_view values.now)) result }
-{
-    let mut registry = Registry::new(alloc)?;
-    for (i, value) in values.iter().enumerate() {
-        let info = at_place(alloc, i, type_in(alloc, &registry, value))?;
+/// The types of a scenario.
+#[derive(Drop)]
+struct RegistryForm;
+
+impl Step for RegistryForm {
+    type State = Registry;
+
+    ghost steps = { λ _ registry d. one_more_type registry d };
+
+    ghost takes = { λ place. place < MOST_TYPES - BUILT_IN_TYPES };
+
+    ghost counts = { λ count registry. length registry ≡ BUILT_IN_TYPES + count };
+
+    #[tactic(auto, using(crate::proofs::TypeLemmas::no_refusal))]
+    fn step(
+        &self,
+        alloc: Global,
+        _place: usize,
+        mut registry: Registry,
+        value: &Value,
+    ) -> Result<Registry, ScenarioFault> {
+        let info = type_in(alloc, &registry, value)?;
         add(&mut registry, info)?;
+        Ok(registry)
     }
-    Ok(registry)
 }
 
-fn registry_of(alloc: Global, value: &Value) -> Result<Registry, ScenarioFault>
+/// Reads the types of a scenario.
+#[tactic(auto, using(crate::proofs::TypeLemmas::built_in_count))]
+fn registry_in(alloc: Global, value: &Value) -> Result<Registry, ScenarioFault>
     ensures { Answers (registry_of (view value.now)) result }
 {
-    let values = list_up_to(alloc, MOST_TYPES, value)?;
-    each_type(alloc, values)
+    let values = list_up_to(alloc, MOST_TYPES - BUILT_IN_TYPES, value)?;
+    let built_in = Registry::new(alloc)?;
+    each_over(alloc, &RegistryForm, built_in, values)
 }
 
-/// The types of a scenario, under the key `type`.
+/// Reads the types of a scenario, which are the built-in ones if it declares none.
 pub(crate) fn registry_at(alloc: Global, table: &Table) -> Result<Registry, ScenarioFault>
     ensures { Answers (optional (codes "type") built_in_types registry_of (table_view table.now)) result }
 {
     match value_of(table, "type") {
-        Some(value) => under(alloc, "type", registry_of(alloc, value)),
+        Some(value) => under(alloc, "type", registry_in(alloc, value)),
         None => Ok(Registry::new(alloc)?),
     }
 }

@@ -1,1 +1,4 @@
+pub mod Faults
+pub mod Readings
 pub mod Runnable
+pub mod Uses

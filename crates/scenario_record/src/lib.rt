@@ -1,8 +1,14 @@
-//! The record that stands for a scenario.
+//! The record of a scenario, why a scenario is refused, and the plan of its frames.
 #![tactic(auto)]
 
+mod fault;
+mod plan;
 mod record;
 
+pub use fault::{
+    BadScenario, Cause, KeyPath, ScenarioFault, bad, below_key, below_place, whole_fault,
+};
+pub use plan::{Access, Plan, Step};
 pub use record::{
     CommandEntry, EventAct, EventEntry, FileName, GroupEntry, Scenario, SpawnEntry, SystemEntry,
 };

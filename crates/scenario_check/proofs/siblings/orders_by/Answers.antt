@@ -1,5 +1,5 @@
 use Rattle.std.proofs.Common.{Some, None, sym, ap, ◌∙◌}
-use Rattle.scenario_read.specs.Faults.{bad}
+use Rattle.scenario_record.specs.Faults.{bad}
 use Rattle.scenario_check.specs.Checks.{at_element, cause_between, order_fault_from}
 use Rattle.scenario_check.proofs.FaultLemmas.{made_fails}
 use Rattle.scenario_check.proofs.SiblingLemmas.{order_step}

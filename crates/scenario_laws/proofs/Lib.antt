@@ -1,0 +1,4 @@
+pub mod Inversions
+pub mod Registries
+pub mod Kept
+pub mod Runs
