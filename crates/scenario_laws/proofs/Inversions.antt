@@ -11,6 +11,13 @@ use Rattle.scenario_record.specs.Faults.{bad}
 use Rattle.scenario_record.specs.Readings.{Reading, under, at_place, ◌>>=◌, changed, unless, whole_path, fault_if}
 use Rattle.scenario_read.specs.ReadKeys.{required_value, required, value_or, optional, number, item_count, few_items, list, list_up_to, each_from, each_up_to, each_over}
 
+-- what was read
+abbrev pub given : {A : Type 0} → A → Reading A
+given x = Ok x
+
+pub ok_same : {A : Type 0} (x y : A) → given x ≡ given y → x ≡ y
+ok_same x y is = cc
+
 module _ {A B : Type 0} where
   pub then_ok : (next : A → Reading B) (found : Reading A) (y : B) → (found >>= next) ≡ Ok y → (x : A) × (found ≡ Ok x) × (next x ≡ Ok y)
   then_ok next (Ok x) y is = (x, refl, is)
@@ -21,9 +28,6 @@ module _ {A B : Type 0} where
   changed_ok f (Err g) y is = absurd cc
 
 module _ {A : Type 0} where
-  pub ok_same : (x y : A) → Ok {B = BadScenario} x ≡ Ok y → x ≡ y
-  ok_same x y is = cc
-
   pub unless_ok : (test : Option BadScenario) (next : Reading A) (y : A) → unless test next ≡ Ok y → next ≡ Ok y
   unless_ok None next y is = is
   unless_ok (Some f) next y is = absurd cc

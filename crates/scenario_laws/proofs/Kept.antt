@@ -5,8 +5,7 @@ use Rattle.toml.specs.Data.{Members, get_member}
 use Rattle.ent_types.specs.Registries.{IsLawfulRegistry}
 use Rattle.scenario_record.specs.declared.record.Scenario.{Scenario}
 use Rattle.scenario_record.specs.Readings.{◌>>=◌}
-use Rattle.scenario_read.specs.declared.reader.Numbers.{Numbers}
-use Rattle.scenario_read.specs.declared.reader.Schedule.{Schedule}
+use Rattle.ent_types.specs.declared.type_info.TypeInfo.{TypeInfo}
 use Rattle.scenario_read.specs.ReadKeys.{unknown_key, required, optional, number, each_up_to}
 use Rattle.scenario_read.specs.ReadGroups.{group}
 use Rattle.scenario_read.specs.ReadSystems.{system}
@@ -25,24 +24,23 @@ pub record IsKept (s : Scenario) : Type 0 where
 
 -- ---- the numbers
 
-pub record AreKept (ms : Members) (n : Numbers) : Type 0 where
-  pub frames : n.frames ≤ 100000
-  pub first : has_key (codes "first_entity_version") ms ≡ false → n.first_entity_version ≡ 1
+-- a fact of a value, and of one that it equals
+of_equal : {N : Type 0} {m : N} (n : N) (P : N → Type 0) → m ≡ n → P m → P n
+of_equal n P is fact = subst P is fact
 
-pub numbers_ok : (ms : Members) (n : Numbers) → numbers ms ≡ Ok n → AreKept ms n
+numbers_ok : (ms : Members) (n : _) → numbers ms ≡ Ok n → (n.frames ≤ 100000) × (has_key (codes "first_entity_version") ms ≡ false → n.first_entity_version ≡ 1)
 numbers_ok ms n is =
-    let frames = required (codes "frames") (number 0 100000) ms in
     let system = optional (codes "first_system_version") 1 (number 1 4294967295) ms in
     let entity = optional (codes "first_entity_version") 1 (number 1 4294967295) ms in
-    let whole : ℕ → ℕ → ℕ → Numbers = λ f s e. record { frames = f; first_system_version = s; first_entity_version = e } in
-    let f = then_ok (λ f. system >>= λ s. entity >>= λ e. Ok (whole f s e)) frames n is in
-    let s = then_ok (λ s. entity >>= λ e. Ok (whole f.0 s e)) system n f.2 in
-    let e = then_ok (λ e. Ok (whole f.0 s.0 e)) entity n s.2 in
+    let f = then_ok _ (required (codes "frames") (number 0 100000) ms) n is in
+    let s = then_ok _ system n f.2 in
+    let e = then_ok _ entity n s.2 in
     let found = required_ok (codes "frames") (number 0 100000) (get_member (codes "frames") ms) f.0 f.1 in
-    subst (AreKept ms) (ok_same (whole f.0 s.0 e.0) n e.2) (record {
-      frames = number_ok 0 100000 found.0 f.0 found.1;
-      first = λ absent. default_ok (codes "first_entity_version") 1 (number 1 4294967295) (get_member (codes "first_entity_version") ms) e.0 absent e.1;
-    })
+    let same = ok_same _ n e.2 in (
+      of_equal n (λ m. m.frames ≤ 100000) same (number_ok 0 100000 found.0 f.0 found.1),
+      of_equal n (λ m. has_key (codes "first_entity_version") ms ≡ false → m.first_entity_version ≡ 1) same
+          (λ absent. default_ok (codes "first_entity_version") 1 (number 1 4294967295) (get_member (codes "first_entity_version") ms) e.0 absent e.1),
+    )
 
 neither : (a b : Bool) → (a || b) ≡ false → (a ≡ false) × (b ≡ false)
 neither true b is = absurd cc
@@ -57,41 +55,26 @@ no_entity_version ms built =
 
 -- ---- the schedule
 
-few_systems : (registry : _) (ms : Members) (s : Schedule) → schedule registry ms ≡ Ok s → length s.system ≤ 256
+few_systems : (registry : List TypeInfo) (ms : Members) (s : _) → schedule registry ms ≡ Ok s → length s.system ≤ 256
 few_systems registry ms s is =
-    let systems = optional (codes "system") [] (each_up_to 256 (system registry)) ms in
-    let events = optional (codes "event") [] (each_up_to 4096 (event registry)) ms in
-    let whole : List _ → List _ → List _ → Schedule = λ g y e. record { group = g; system = y; event = e } in
-    let g = then_ok (λ g. systems >>= λ y. events >>= λ e. Ok (whole g y e)) (optional (codes "group") [] (each_up_to 64 group) ms) s is in
-    let y = then_ok (λ y. events >>= λ e. Ok (whole g.0 y e)) systems s g.2 in
-    let e = then_ok (λ e. Ok (whole g.0 y.0 e)) events s y.2 in
-    subst (λ (t : Schedule). length t.system ≤ 256) (ok_same (whole g.0 y.0 e.0) s e.2) (optional_up_to_ok (codes "system") 256 (system registry) ms y.0 y.1)
+    let g = then_ok _ (optional (codes "group") [] (each_up_to 64 group) ms) s is in
+    let y = then_ok _ (optional (codes "system") [] (each_up_to 256 (system registry)) ms) s g.2 in
+    let e = then_ok _ (optional (codes "event") [] (each_up_to 4096 (event registry)) ms) s y.2 in
+    of_equal s (λ t. length t.system ≤ 256) (ok_same _ s e.2) (optional_up_to_ok (codes "system") 256 (system registry) ms y.0 y.1)
 
 -- ---- the whole
 
 keys_ok : (ms : Members) (s : Scenario) → top_keys ms ≡ Ok s → IsKept s
 keys_ok ms s is =
-    let whole : Numbers → List _ → List _ → Schedule → Scenario = λ n registry spawn t. record {
-      frames = n.frames;
-      first_system_version = n.first_system_version;
-      first_entity_version = n.first_entity_version;
-      registry = registry;
-      spawn = spawn;
-      group = t.group;
-      system = t.system;
-      event = t.event;
-      placed = is_placed ms;
-      unbuilt = is_unbuilt ms;
-    } in
-    let n = then_ok (λ n. types ms >>= λ registry. spawns registry ms >>= λ spawn. schedule registry ms >>= λ t. Ok (whole n registry spawn t)) (numbers ms) s is in
-    let registry = then_ok (λ registry. spawns registry ms >>= λ spawn. schedule registry ms >>= λ t. Ok (whole n.0 registry spawn t)) (types ms) s n.2 in
-    let spawn = then_ok (λ spawn. schedule registry.0 ms >>= λ t. Ok (whole n.0 registry.0 spawn t)) (spawns registry.0 ms) s registry.2 in
-    let t = then_ok (λ t. Ok (whole n.0 registry.0 spawn.0 t)) (schedule registry.0 ms) s spawn.2 in
+    let n = then_ok _ (numbers ms) s is in
+    let registry = then_ok _ (types ms) s n.2 in
+    let spawn = then_ok _ (spawns registry.0 ms) s registry.2 in
+    let t = then_ok _ (schedule registry.0 ms) s spawn.2 in
     let kept = numbers_ok ms n.0 n.1 in
-    subst IsKept (ok_same (whole n.0 registry.0 spawn.0 t.0) s t.2) (record {
-      frames = kept.frames;
+    of_equal s IsKept (ok_same _ s t.2) (record {
+      frames = kept.0;
       systems = few_systems registry.0 ms t.0 t.1;
-      first = λ built. kept.first (no_entity_version ms built);
+      first = λ built. kept.1 (no_entity_version ms built);
       registry = types_ok ms registry.0 registry.1;
     })
 

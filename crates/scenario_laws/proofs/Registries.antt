@@ -29,7 +29,7 @@ few_fields : (d : Data) (fs : List FieldInfo) → fields d ≡ Ok fs → length 
 few_fields d fs is =
     let all = then_ok (each_over one_more_field [] 0) (list_up_to 64 d) fs is in
     let few = list_up_to_ok 64 d all.0 all.1 in
-    let count = each_over_ok (λ n gs. length gs ≡ n) one_more_field 64 (λ i gs hs e below first got. one_field gs hs e got ∙ ap (λ n. n + 1) first) 0 [] fs all.0 few refl all.2 in
+    let count = each_over_ok (λ n gs. length gs ≡ n) one_more_field 64 (λ i gs hs e below first got. one_field gs hs e got ∙ ap (λ n. n + 1) first) 0 [] fs all.0 (omega (arith, few)) refl all.2 in
     omega (arith, few, count)
 
 -- ---- a type
@@ -74,15 +74,15 @@ type_ok registry d t is =
 
 record IsReadUpTo (count : ℕ) (registry : List TypeInfo) : Type 0 where
   pub lawful : IsLawfulRegistry registry
-  pub count : length registry ≡ 3 + count
+  pub counted : length registry ≡ 3 + count
 
 one_type : (i : ℕ) (r s : List TypeInfo) (d : Data) → i < 253 → IsReadUpTo i r → one_more_type r d ≡ Ok s → IsReadUpTo (i + 1) s
 one_type i r s d below first is =
     let t = then_ok (λ t. Ok (r ++ t ∷ [])) (type_in r d) s is in
     let new = type_ok r d t.0 t.1 in
     subst (IsReadUpTo (i + 1)) (ok_same (r ++ t.0 ∷ []) s t.2) (record {
-      lawful = IsLawfulRegistry-push r first.lawful t.0 new.lawful new.few new.new (omega (arith, first.count));
-      count = length-append r (t.0 ∷ []) ∙ omega (arith, first.count);
+      lawful = IsLawfulRegistry-push r first.lawful t.0 new.lawful new.few new.new (omega (arith, first.counted));
+      counted = length-append r (t.0 ∷ []) ∙ omega (arith, first.counted);
     })
 
 three : length built_in_types ≡ 3
@@ -92,8 +92,8 @@ three = refl
 registry_ok : (d : Data) (r : List TypeInfo) → registry_of d ≡ Ok r → IsLawfulRegistry r
 registry_ok d r is =
     let all = then_ok (each_over one_more_type built_in_types 0) (list_up_to 253 d) r is in
-    (each_over_ok IsReadUpTo one_more_type 253 one_type 0 built_in_types r all.0 (list_up_to_ok 253 d all.0 all.1)
-    (record { lawful = IsLawfulRegistry-built_in; count = three }) all.2).lawful
+    (each_over_ok IsReadUpTo one_more_type 253 one_type 0 built_in_types r all.0 (omega (arith, list_up_to_ok 253 d all.0 all.1))
+    (record { lawful = IsLawfulRegistry-built_in; counted = three }) all.2).lawful
 
 pub types_ok : (ms : Members) (r : List TypeInfo) → types ms ≡ Ok r → IsLawfulRegistry r
 types_ok ms r is = optional_ok IsLawfulRegistry (codes "type") built_in_types registry_of ms r IsLawfulRegistry-built_in (λ d got. registry_ok d r got) is

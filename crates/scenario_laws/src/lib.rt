@@ -20,7 +20,6 @@ pub fn what_is_read_can_be_checked()
 {}
 
 /// The registry of each scenario that was read is lawful.
-#[tactic(auto, using(crate::proofs::Kept::has_lawful_registry))]
 pub fn what_is_read_has_a_lawful_registry()
     ensures { (bytes : List ℕ) (s : Scenario) → scenario_of bytes ≡ Ok s → IsLawfulRegistry s.registry }
 {}
