@@ -2,8 +2,10 @@
 use ent_types::{Sequence, TypeSet};
 use expr_trees::PartExpr;
 use plain_world::{PlainWorld, is_runnable, run_scenario, spawn_all};
+use scenario_check::check;
+use scenario_laws::what_is_read_can_be_checked;
 use scenario_read::read_scenario;
-use scenario_record::{Scenario, SpawnEntry};
+use scenario_record::{Plan, Scenario, SpawnEntry};
 use std::alloc::Global;
 use std::test::Fail;
 
@@ -23,6 +25,14 @@ system = [{ name = 'Tick', all = ['Count'], set = ['Count.v = Count.v + 1'] }]
 /// The scenario.
 pub(crate) fn tick(alloc: Global) -> Result<Scenario, Fail> {
     Ok(read_scenario(alloc, TICK.as_bytes())?)
+}
+
+/// The scenario with its plan: seven steps, of which the fifth runs the system.
+pub(crate) fn planned_tick(alloc: Global) -> Result<(Scenario, Plan), Fail> {
+    what_is_read_can_be_checked();
+    let scenario = read_scenario(alloc, TICK.as_bytes())?;
+    let plan = check(alloc, &scenario)?;
+    Ok((scenario, plan))
 }
 
 /// The scenario with other spawns.
@@ -50,9 +60,9 @@ pub(crate) fn spawned(alloc: Global, scenario: &Scenario) -> Result<PlainWorld, 
 }
 
 /// The world after all frames.
-pub(crate) fn run(alloc: Global, scenario: &Scenario) -> Result<PlainWorld, Fail> {
-    if !is_runnable(scenario) {
+pub(crate) fn run(alloc: Global, scenario: &Scenario, plan: &Plan) -> Result<PlainWorld, Fail> {
+    if !is_runnable(scenario) || plan.steps.len() > 7 {
         return Err("not to be run".into());
     }
-    Ok(run_scenario(alloc, scenario)?)
+    Ok(run_scenario(alloc, scenario, plan)?)
 }
