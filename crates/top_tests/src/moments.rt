@@ -5,7 +5,7 @@ use scenario_record::{Plan, Scenario, Step};
 use std::alloc::Global;
 use std::test::Fail;
 
-/// The moment after a raise of moment 1.
+/// Returns the moment after a raise of moment 1.
 fn raised(alloc: Global) -> u32 {
     let mut world = PlainWorld {
         blocks: Vec::new(alloc),
@@ -17,7 +17,7 @@ fn raised(alloc: Global) -> u32 {
     world.moment
 }
 
-/// The moment after a run of the first system, from moment 1 and without rows.
+/// Returns the moment after a run of the first system, from moment 1 and without rows.
 fn after_system(alloc: Global, scenario: &Scenario) -> Result<u32, Fail> {
     let mut world = PlainWorld {
         blocks: Vec::new(alloc),
@@ -30,7 +30,7 @@ fn after_system(alloc: Global, scenario: &Scenario) -> Result<u32, Fail> {
     Ok(world.moment)
 }
 
-/// The moment after one frame, from moment 2 and without rows.
+/// Returns the moment after one frame, from moment 2 and without rows.
 fn after_frame(alloc: Global, scenario: &Scenario, steps: &[Step]) -> Result<u32, Fail> {
     if !is_runnable(scenario) || steps.len() > 7 {
         return Err("not to be run".into());
@@ -45,7 +45,7 @@ fn after_frame(alloc: Global, scenario: &Scenario, steps: &[Step]) -> Result<u32
     Ok(world.moment)
 }
 
-/// The moment after all frames, from moment 9 and without rows.
+/// Returns the moment after all frames, from moment 9 and without rows.
 fn after_frames(alloc: Global, scenario: &Scenario, steps: &[Step]) -> Result<u32, Fail> {
     if !is_runnable(scenario) || steps.len() > 7 {
         return Err("not to be run".into());

@@ -22,12 +22,12 @@ spawn = [{ count = 2, with = { Count = [5] } }]
 system = [{ name = 'Tick', all = ['Count'], set = ['Count.v = Count.v + 1'] }]
 ";
 
-/// The scenario.
+/// Returns the scenario.
 pub(crate) fn tick(alloc: Global) -> Result<Scenario, Fail> {
     Ok(read_scenario(alloc, TICK.as_bytes())?)
 }
 
-/// The scenario with its plan: seven steps, of which the fifth runs the system.
+/// Returns the scenario with its plan: seven steps, of which the fifth runs the system.
 pub(crate) fn planned_tick(alloc: Global) -> Result<(Scenario, Plan), Fail> {
     what_is_read_can_be_checked();
     let scenario = read_scenario(alloc, TICK.as_bytes())?;
@@ -35,14 +35,14 @@ pub(crate) fn planned_tick(alloc: Global) -> Result<(Scenario, Plan), Fail> {
     Ok((scenario, plan))
 }
 
-/// The scenario with other spawns.
+/// Returns the scenario with other spawns.
 pub(crate) fn with_spawns(alloc: Global, spawns: Vec<SpawnEntry>) -> Result<Scenario, Fail> {
     let mut scenario = tick(alloc)?;
     scenario.spawn = Sequence::from_vec(spawns);
     Ok(scenario)
 }
 
-/// Rows with these parts.
+/// Returns a spawn of rows with these parts.
 pub(crate) fn rows(count: u32, parts: Vec<PartExpr>) -> SpawnEntry {
     SpawnEntry {
         count,
@@ -51,7 +51,7 @@ pub(crate) fn rows(count: u32, parts: Vec<PartExpr>) -> SpawnEntry {
     }
 }
 
-/// The world after the spawns.
+/// Returns the world after the spawns.
 pub(crate) fn spawned(alloc: Global, scenario: &Scenario) -> Result<PlainWorld, Fail> {
     if !is_runnable(scenario) {
         return Err("not to be run".into());
@@ -59,7 +59,7 @@ pub(crate) fn spawned(alloc: Global, scenario: &Scenario) -> Result<PlainWorld, 
     Ok(spawn_all(alloc, scenario)?)
 }
 
-/// The world after all frames.
+/// Returns the world after all frames.
 pub(crate) fn run(alloc: Global, scenario: &Scenario, plan: &Plan) -> Result<PlainWorld, Fail> {
     if !is_runnable(scenario) || plan.steps.len() > 7 {
         return Err("not to be run".into());
