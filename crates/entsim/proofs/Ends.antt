@@ -8,7 +8,7 @@ use Rattle.ent_io.specs.declared.end.End.{End}
 use Rattle.plain_text.specs.Lines.{world_text}
 use Rattle.plain_world.specs.Run.{world_after}
 use Rattle.scenario_check.specs.Built.{is_built}
-use Rattle.scenario_record.specs.declared.record.Scenario.{Scenario}
+use Rattle.entsim.specs.declared.commands.Checked.{Checked}
 use Rattle.entsim.specs.declared.stop.Refusal.{Refusal}
 use Rattle.entsim.specs.declared.stop.Refusal.TheVariants.{NotBuilt}
 use Rattle.entsim.specs.declared.stop.Stop.{Stop}
@@ -56,10 +56,11 @@ told_refused (Some files) wanted further value refusal old new is due same = (su
 
 -- the text of a run, by its form
 
-pub unbuilt_text : (s : Scenario) (b : Bool) → b ≡ is_built s → b ≡ false → run_text s ≡ Err NotBuilt
+pub unbuilt_text : (c : Checked) (b : Bool) → b ≡ is_built c.scenario → b ≡ false → run_text c ≡ Err NotBuilt
 unfolding run_text
-unbuilt_text s b is off = rw (← is) (rw off refl)
+unbuilt_text c b is off = rw (← is) (rw off refl)
 
-pub built_text : (s : Scenario) (b : Bool) → b ≡ is_built s → b ≡ true → run_text s ≡ Ok (world_text s.registry s.frames (world_after s))
+pub built_text : (c : Checked) (b : Bool) → b ≡ is_built c.scenario → b ≡ true
+    → run_text c ≡ Ok (world_text c.scenario.registry c.scenario.frames (world_after c.scenario c.plan))
 unfolding run_text
-built_text s b is on = rw (← is) (rw on refl)
+built_text c b is on = rw (← is) (rw on refl)

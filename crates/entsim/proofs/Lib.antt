@@ -1,3 +1,4 @@
 mod Ends
 mod Merged
 mod Numerals
+mod Plans

@@ -13,6 +13,7 @@ use Rattle.plain_world.specs.Run.{world_after}
 use Rattle.plain_text.specs.Lines.{world_text}
 use Rattle.entsim.specs.ErrorLines.{refusal_line, words_line}
 use Rattle.entsim.specs.CheckLine.{ok_line}
+use Rattle.entsim.specs.declared.commands.Checked.{Checked}
 use Rattle.entsim.specs.declared.stop.Refusal.{Refusal}
 use Rattle.entsim.specs.declared.stop.Refusal.TheVariants.{Missing, Faulty, NotBuilt}
 use Rattle.entsim.specs.Words.{Command, run, check, layout, plan, dump, make, bench, command_of}
@@ -40,21 +41,23 @@ bytes_in file = refused_as Missing (whole_of LONGEST_SCENARIO file)
 abbrev pub read_from : List ℕ → Result Scenario Refusal
 read_from bytes = refused_as Faulty (scenario_of bytes)
 
--- the scenario, if it passes its checks
-abbrev pub passing : Scenario → Result Scenario Refusal
-passing s = and_then (λ plan. Ok s) (refused_as Faulty (checked s))
+-- the scenario with its plan, if it passes its checks
+abbrev pub checked_of : Scenario → Result Checked Refusal
+checked_of s = and_then (λ plan. Ok (record { scenario = s; plan = plan })) (refused_as Faulty (checked s))
 
--- the scenario of a file, which passes its checks
-abbrev pub scenario_in : Option (List ℕ) → Result Scenario Refusal
-scenario_in file = and_then passing (and_then read_from (bytes_in file))
+-- the scenario of a file with its plan
+abbrev pub scenario_in : Option (List ℕ) → Result Checked Refusal
+scenario_in file = and_then checked_of (and_then read_from (bytes_in file))
 
 -- the text of a run: the world after the frames, for the forms that are built
-unfoldable pub run_text : Scenario → Result (List ℕ) Refusal
-run_text s = if is_built s then Ok (world_text s.registry s.frames (world_after s)) else Err NotBuilt
+unfoldable pub run_text : Checked → Result (List ℕ) Refusal
+run_text c =
+    if is_built c.scenario then Ok (world_text c.scenario.registry c.scenario.frames (world_after c.scenario c.plan))
+    else Err NotBuilt
 
 -- the text of a check
-abbrev pub check_text : Scenario → Result (List ℕ) Refusal
-check_text s = Ok (ok_line s)
+abbrev pub check_text : Checked → Result (List ℕ) Refusal
+check_text c = Ok (ok_line c.scenario)
 
 -- one worker, as where none are named
 abbrev pub is_alone : Option ℕ → Bool

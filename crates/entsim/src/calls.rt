@@ -54,9 +54,9 @@ fn conclude<W: Sink>(alloc: Global, written: Result<(), Stop>, out: &mut W) -> S
 /// Reads and checks the scenario of a file, and writes the numbers of its own types, its systems and its frames, or its
 /// first fault.
 ///
-/// The status is `Done` where it passes, and `Refused` where the file is absent, longer than 1 MiB or at fault.
-/// `ReadFault` comes only where the store's count of faults rose, and `WriteFault` only where the sink's did; with these
-/// two and `Memory` a prefix of the line was written. The files stay as they are. This project's own.
+/// The status is `Done` if it passes, and `Refused` if the file is absent, longer than 1 MiB or invalid. `ReadFault` comes
+/// only if the store's count of faults rose, and `WriteFault` only if the sink's did. With these two and `Memory` a prefix
+/// of the line was written. The files stay as they are. This project's own.
 pub fn check_call<S: Store, W: Sink>(
     alloc: Global,
     scenario: &str,
@@ -85,8 +85,8 @@ fn is_alone(workers: Option<u32>) -> bool
 /// Runs the scenario of a file, and writes the world after its frames, or its first fault. More workers than one and the
 /// trace aren't built yet: they are refused before anything is read.
 ///
-/// The statuses are those of `check_call`, and `Refused` besides for a scenario of a form that isn't run yet. This
-/// project's own.
+/// The statuses are those of `check_call`, and also `Refused` for a scenario of a form that isn't run yet. This project's
+/// own.
 pub fn run_call<S: Store, W: Sink>(
     alloc: Global,
     scenario: &str,

@@ -7,7 +7,7 @@ use ent_types::BUILT_IN_TYPES;
 use scenario_record::Scenario;
 use std::alloc::{AllocError, Global};
 
-/// Appends a number behind the name of what it counts.
+/// Appends a number after the name of what it counts.
 fn push_count(
     alloc: Global,
     line: &mut Vec<u8>,
@@ -22,7 +22,7 @@ fn push_count(
     Ok(())
 }
 
-/// The line of a scenario that passes its checks.
+/// Returns the line of a scenario that passes its checks.
 #[tactic(auto, unfolding(crate::specs::CheckLine::ok_line))]
 pub fn ok_line(alloc: Global, scenario: &Scenario) -> Result<Vec<u8>, AllocError>
     ensures { IfOk result (λ line. line.items ≡ ok_line scenario.now) }

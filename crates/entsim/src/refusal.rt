@@ -10,7 +10,7 @@ use ent_io::{End, Missing, Sink, write_whole};
 use scenario_record::{BadScenario, Cause};
 use std::alloc::{AllocError, Global};
 
-/// The line for a scenario's file that can't be had.
+/// Returns the line for a scenario's file that can't be read.
 #[tactic(auto, unfolding(crate::specs::ErrorLines::missing_line))]
 fn missing_line(missing: Missing) -> &'static [u8]
     ensures { result.now ≡ missing_line missing }
@@ -21,7 +21,7 @@ fn missing_line(missing: Missing) -> &'static [u8]
     }
 }
 
-/// Appends the place of the token at fault, where a text is at fault.
+/// Appends the place of the invalid token, if a text is invalid.
 fn push_at(alloc: Global, line: &mut Vec<u8>, at: Option<u32>) -> Result<(), AllocError>
     ensures { OnOk result (line.new.items ≡ line.old.items ++ at_text at) }
 {
@@ -34,7 +34,7 @@ fn push_at(alloc: Global, line: &mut Vec<u8>, at: Option<u32>) -> Result<(), All
     Ok(())
 }
 
-/// Appends a place in the scenario.
+/// Appends where in the scenario the fault is.
 fn push_key(alloc: Global, line: &mut Vec<u8>, fault: &BadScenario) -> Result<(), AllocError>
     ensures { OnOk result (line.new.items ≡ line.old.items ++ (codes " key=" ++ (fault.now.key ++ at_text fault.now.at))) }
 {
@@ -43,7 +43,7 @@ fn push_key(alloc: Global, line: &mut Vec<u8>, fault: &BadScenario) -> Result<()
     push_at(alloc, line, fault.at)
 }
 
-/// Appends the place of a fault; a fault of the whole file has none.
+/// Appends where a fault is. A fault of the whole file has no place.
 fn push_place(alloc: Global, line: &mut Vec<u8>, fault: &BadScenario) -> Result<(), AllocError>
     ensures { OnOk result (line.new.items ≡ line.old.items ++ key_text fault.now.cause fault.now.key fault.now.at) }
 {
@@ -53,7 +53,7 @@ fn push_place(alloc: Global, line: &mut Vec<u8>, fault: &BadScenario) -> Result<
     }
 }
 
-/// The line of a scenario at fault: its cause, and where the fault is.
+/// Returns the line of an invalid scenario: the cause, and where the fault is.
 #[tactic(auto, unfolding(crate::specs::ErrorLines::fault_line))]
 fn fault_line(alloc: Global, fault: &BadScenario) -> Result<Vec<u8>, AllocError>
     ensures { IfOk result (λ line. line.items ≡ fault_line fault.now) }
@@ -65,7 +65,7 @@ fn fault_line(alloc: Global, fault: &BadScenario) -> Result<Vec<u8>, AllocError>
     Ok(line)
 }
 
-/// The line of a refusal.
+/// Returns the line of a refusal.
 #[tactic(auto, unfolding(crate::specs::ErrorLines::unbuilt_line))]
 fn refusal_line(alloc: Global, refusal: &Refusal) -> Result<Vec<u8>, AllocError>
     ensures { IfOk result (λ line. line.items ≡ refusal_line refusal.now) }

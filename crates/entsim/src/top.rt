@@ -20,10 +20,10 @@ use std::thread::Threads;
 /// forms that `docs/SCENARIO.md` describes. Every other command is `Refused` with the cause NotBuilt before anything is
 /// read, and the run of a scenario of another form after all its other faults.
 ///
-/// `BadWords` comes exactly where the words aren't a command. For a command that is built, `Refused` comes exactly where
-/// the file is absent, longer than 1 MiB, at fault, or of a form that isn't run yet. `ReadFault` comes only where the
-/// store's count of faults rose in this call, and `WriteFault` only where the sink's did. With these two and `Memory` a
-/// prefix of the text was written. The words, the lines and the statuses are this project's own.
+/// `BadWords` comes if and only if the words aren't a command. A command that is built is `Refused` if and only if the file
+/// is absent, longer than 1 MiB, invalid, or of a form that isn't run yet. `ReadFault` comes only if the store's count of
+/// faults rose in this call, and `WriteFault` only if the sink's did. With these two and `Memory` a prefix of the text was
+/// written. The words, the lines and the statuses are this project's own.
 pub fn entsim<R: Threads + Wait, S: Store, W: Sink, G: Gate>(
     _rt: &R,
     alloc: Global,

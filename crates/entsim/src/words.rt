@@ -1,7 +1,7 @@
-//! The words after the program's name, and what each list of them asks for.
+//! The command line: the words after the program's name, and the command that they name.
 //!
-//! A command's files or number stand first, its options after them. Any list of words that isn't in the table of
-//! `Command` is refused.
+//! A command's files or number come first, its options after them. Any list of words that isn't in the table of `Command`
+//! is refused.
 ghost use Rattle.std.specs.Prelude.{List, ◌≡◌, ℕ, map, option_map, option_copied, string_bytes};
 ghost use Rattle.entsim.specs.Words.{command_of, command_view, file_of, lone_file, run_of, dump_of, make_of, bench_of};
 
@@ -11,48 +11,48 @@ mod options;
 use number::read_number;
 use options::read_options;
 
-/// What the program is asked to do. The words are this project's own.
+/// A command with its arguments. The words are this project's own.
 #[derive(Clone, Copy, Debug, PartialEq, Eq)]
 pub enum Command<'a> {
-    /// `run FILE [--workers N] [--trace]`: runs the scenario and prints the run.
+    /// Runs the scenario and prints the run: `run FILE [--workers N] [--trace]`.
     Run {
         file: &'a str,
         workers: Option<u32>,
         trace: bool,
     },
-    /// `check FILE`: reads and checks the scenario.
+    /// Reads and checks the scenario: `check FILE`.
     Check {
         file: &'a str,
     },
-    /// `layout FILE`: prints the blocks after the spawns.
+    /// Prints the blocks after the spawns: `layout FILE`.
     Layout {
         file: &'a str,
     },
-    /// `plan FILE`: prints the phases of frame 1.
+    /// Prints the phases of frame 1: `plan FILE`.
     Plan {
         file: &'a str,
     },
-    /// `dump FILE FILE`: prints the scene file, the second, by the types of the scenario, the first.
+    /// Prints the scene file, the second, by the types of the scenario, the first: `dump FILE FILE`.
     Dump {
         scenario: &'a str,
         scene: &'a str,
     },
-    /// `make NUMBER [--scene K]`: prints the generated scenario, or the generated scene K.
+    /// Prints the generated scenario, or the generated scene K: `make NUMBER [--scene K]`.
     Make {
         number: u64,
         scene: Option<u32>,
     },
-    /// `bench NUMBER [--workers N]`: makes a scenario, runs it and sums up.
+    /// Makes a scenario, runs it and sums up: `bench NUMBER [--workers N]`.
     Bench {
         number: u64,
         workers: Option<u32>,
     },
 }
 
-/// The command that the words ask for, or `None` where no command is called so.
+/// Returns the command that the words name, or `None` if they name none.
 ///
-/// A number has decimal digits without a leading zero. A file's name isn't empty and doesn't begin with `-`. Each
-/// option stands at most once, and only with a command that has it. No memory is taken.
+/// A number has decimal digits without a leading zero. A file's name isn't empty and doesn't begin with `-`. Each option
+/// is allowed once, and only with a command that has it. The call takes no memory.
 pub fn read_words<'a>(words: &'a [String]) -> Option<Command<'a>>
     ensures { option_map command_view result ≡ command_of (map string_bytes words.now) }
 {
@@ -75,7 +75,7 @@ pub fn read_words<'a>(words: &'a [String]) -> Option<Command<'a>>
     }
 }
 
-/// The word, if it may name a file.
+/// Returns the word if it may name a file.
 fn read_file(word: &str) -> Option<&str>
     ensures { option_copied result ≡ file_of word.now }
 {
@@ -85,7 +85,7 @@ fn read_file(word: &str) -> Option<&str>
     }
 }
 
-/// The file of a command that takes nothing else.
+/// Reads the file of a command that takes nothing else.
 fn read_lone_file(words: &[String]) -> Option<&str>
     ensures { option_copied result ≡ lone_file (map string_bytes words.now) }
 {
@@ -95,7 +95,7 @@ fn read_lone_file(words: &[String]) -> Option<&str>
     }
 }
 
-/// `FILE [--workers N] [--trace]`
+/// Reads `FILE [--workers N] [--trace]`.
 fn read_run<'a>(words: &'a [String]) -> Option<Command<'a>>
     ensures { option_map command_view result ≡ run_of (map string_bytes words.now) }
 {
@@ -112,7 +112,7 @@ fn read_run<'a>(words: &'a [String]) -> Option<Command<'a>>
     })
 }
 
-/// `FILE FILE`
+/// Reads `FILE FILE`.
 fn read_dump<'a>(words: &'a [String]) -> Option<Command<'a>>
     ensures { option_map command_view result ≡ dump_of (map string_bytes words.now) }
 {
@@ -125,7 +125,7 @@ fn read_dump<'a>(words: &'a [String]) -> Option<Command<'a>>
     }
 }
 
-/// `NUMBER [--scene K]`
+/// Reads `NUMBER [--scene K]`.
 fn read_make<'a>(words: &'a [String]) -> Option<Command<'a>>
     ensures { option_map command_view result ≡ make_of (map string_bytes words.now) }
 {
@@ -141,7 +141,7 @@ fn read_make<'a>(words: &'a [String]) -> Option<Command<'a>>
     })
 }
 
-/// `NUMBER [--workers N]`
+/// Reads `NUMBER [--workers N]`.
 fn read_bench<'a>(words: &'a [String]) -> Option<Command<'a>>
     ensures { option_map command_view result ≡ bench_of (map string_bytes words.now) }
 {

@@ -7,7 +7,7 @@ use std::env::{self, Env};
 use std::io;
 use std::process::ExitCode;
 
-/// The number that the program ends with.
+/// Returns the program's exit status.
 fn number(status: Status) -> u8 {
     match status {
         Status::Done => 0,
@@ -20,7 +20,7 @@ fn number(status: Status) -> u8 {
     }
 }
 
-/// The status once the rest of the text is handed on: a text that can't be handed on is a fault of writing.
+/// Returns the status after the rest of the text is written. A text that can't be written is a fault of writing.
 fn settled(status: Status, handed: Result<(), SinkEnd>) -> Status {
     match handed {
         Ok(()) => status,
@@ -28,7 +28,8 @@ fn settled(status: Status, handed: Result<(), SinkEnd>) -> Status {
     }
 }
 
-/// The words after the program's name. A word that isn't UTF-8 is in no command, so such a list is read as none at all.
+/// Returns the words after the program's name. No command has a word that isn't UTF-8, so a list with such a word is read
+/// as no words.
 fn read_args<R: Env + AllocGlobal>(rt: &R) -> io::Result<Vec<String>> {
     match env::args(rt) {
         Ok(all) => Ok(all.skip(1).collect::<Vec<String>>(rt.alloc())?),

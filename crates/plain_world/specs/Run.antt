@@ -1,10 +1,8 @@
 -- The run of a scenario: the spawns, then frame after frame, each a fold of steps over the world.
-use Rattle.std.specs.Prelude.{ℕ, Bool, false, ◌+◌, if◌then◌else◌, nat_lt, List, [], ◌∷◌, ◌++◌, map, fold, unwrap_or, slice_get, option_map}
+use Rattle.std.specs.Prelude.{ℕ, Bool, false, ◌+◌, if◌then◌else◌, nat_lt, List, [], ◌∷◌, map, fold, unwrap_or, slice_get, Option, None, Some, option_map}
 use Rattle.std.specs.List.{range_with_len}
 use Rattle.ent_types.specs.declared.kinds.FieldKind.{FieldKind}
 use Rattle.ent_types.specs.declared.kinds.FieldKind.TheVariants.{I64}
-use Rattle.ent_types.specs.declared.point.Point.{Point}
-use Rattle.ent_types.specs.declared.point.Point.TheVariants.{BeginInitialization, EndInitialization, BeginSimulation, EndSimulation, BeginPresentation}
 use Rattle.ent_types.specs.declared.type_info.FieldInfo.{FieldInfo}
 use Rattle.ent_types.specs.declared.type_info.TypeInfo.{TypeInfo}
 use Rattle.ent_types.specs.declared.value.Value.{Value}
@@ -23,6 +21,9 @@ use Rattle.expr_trees.specs.declared.tree.ValueExpr.{ValueExpr}
 use Rattle.expr_trees.specs.declared.tree.ValueExpr.TheVariants.{Int as IntExpr, Ref as RefExpr}
 use Rattle.expr_trees.specs.declared.tree.PartExpr.{PartExpr}
 use Rattle.expr_trees.specs.declared.tree.Assign.{Assign}
+use Rattle.scenario_record.specs.declared.plan.Plan.{Plan}
+use Rattle.scenario_record.specs.declared.plan.Step.{Step}
+use Rattle.scenario_record.specs.declared.plan.Step.TheVariants.{Events, Play, Run}
 use Rattle.scenario_record.specs.declared.record.Scenario.{Scenario}
 use Rattle.scenario_record.specs.declared.record.SpawnEntry.{SpawnEntry}
 use Rattle.scenario_record.specs.declared.record.SystemEntry.{SystemEntry}
@@ -155,29 +156,21 @@ ran registry frame w system =
 
 -- ---- frames
 
--- what a frame does, one after another
-pub data Step : Type 0 where
-  events : Step
-  play : Point → Step
-  run : SystemEntry → Step
+-- The run of the system with a number of the scenario. A number of no system only raises the moment; no plan has one.
+abbrev pub ran_numbered : Scenario → ℕ → World → Option SystemEntry → World
+ran_numbered s frame w None = raised w
+ran_numbered s frame w (Some system) = ran s.registry frame w system
 
--- Each step raises the moment once, also where it does nothing else: no event and no command is there in the forms
--- that are run.
-abbrev pub stepped : List TypeInfo → ℕ → World → Step → World
-stepped registry frame w events = raised w
-stepped registry frame w (play point) = raised w
-stepped registry frame w (run system) = ran registry frame w system
+-- Each step raises the moment once, also if it does nothing else: the forms that are run have no event and no command.
+abbrev pub stepped : Scenario → ℕ → World → Step → World
+stepped s frame w Events = raised w
+stepped s frame w (Play point) = raised w
+stepped s frame w (Run number) = ran_numbered s frame w (slice_get s.system number)
 
--- the steps of a frame: all systems are in the group Simulation
-abbrev pub frame_steps : List SystemEntry → List Step
-frame_steps systems =
-    events ∷ play BeginInitialization ∷ play EndInitialization ∷ play BeginSimulation
-    ∷ (map run systems ++ play EndSimulation ∷ play BeginPresentation ∷ [])
-
--- the world after the frame of this number
-abbrev pub framed : Scenario → World → ℕ → World
-framed s w frame = fold (stepped s.registry frame) w (frame_steps s.system)
+-- the world after the frame of this number, with these steps
+abbrev pub framed : Scenario → List Step → World → ℕ → World
+framed s steps w frame = fold (stepped s frame) w steps
 
 -- the world after all frames, whose numbers are 1, 2, ..
-abbrev pub world_after : Scenario → World
-world_after s = fold (framed s) (spawned s) (range_with_len 1 s.frames)
+abbrev pub world_after : Scenario → Plan → World
+world_after s plan = fold (framed s plan.steps) (spawned s) (range_with_len 1 s.frames)

@@ -44,7 +44,7 @@ pub fn do_words<R: Print + AllocGlobal + Threads + Wait>(
     Ok(())
 }
 
-/// The words between the tabs, or none.
+/// Returns the words between the tabs, or none.
 fn words_of(alloc: Global, words: Option<&str>) -> Result<Vec<String>, AllocError> {
     let mut list = Vec::new(alloc);
     if let Some(words) = words {
@@ -55,7 +55,7 @@ fn words_of(alloc: Global, words: Option<&str>) -> Result<Vec<String>, AllocErro
     Ok(list)
 }
 
-/// The status and the text of the top call.
+/// Returns the status and the text of the top call.
 fn ended<R: AllocGlobal + Threads + Wait>(
     rt: &R,
     folder: &mut Folder,
@@ -88,7 +88,7 @@ fn print_lines<R: Print>(rt: &R, lines: &[&str]) -> Result<()> {
     Ok(())
 }
 
-/// A number that tells most texts apart.
+/// Returns a number that differs for most texts.
 fn checksum(text: &[u8]) -> u32 {
     text.iter().fold(0u32, |sum, byte| {
         sum.wrapping_mul(31).wrapping_add(u32::from(*byte))

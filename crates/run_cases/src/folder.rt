@@ -15,7 +15,7 @@ pub struct Folder {
 }
 
 impl Folder {
-    /// A folder without files. No call fails.
+    /// Returns a folder without files. No call fails.
     pub fn new(alloc: Global) -> Folder {
         Folder {
             files: Vec::new(alloc),
@@ -78,7 +78,7 @@ impl Folder {
         self.by_one = true;
     }
 
-    /// The store and the sink of the next case. After it no call fails.
+    /// Returns the store and the sink of the next case. In the cases after it no call fails.
     pub fn open(&mut self, alloc: Global) -> Result<(MemoryStore, MemorySink), AllocError> {
         let files = copy_files(alloc, &self.files)?;
         let reads = mem::replace(&mut self.failing_reads, Vec::new(alloc));

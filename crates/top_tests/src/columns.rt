@@ -15,14 +15,14 @@ const WIDER: TypeId = TypeId(5);
 
 const BARE: TypeId = TypeId(6);
 
-/// A part of a type whose first field is 5. Its other fields get no value.
+/// Returns a part of a type whose first field is 5. Its other fields get no value.
 fn part(alloc: Global, ty: TypeId) -> Result<PartExpr, Fail> {
     let mut values = Sequence::new(alloc);
     values.push(ValueExpr::Int(Expr::Number(5)))?;
     Ok(PartExpr { ty, values })
 }
 
-/// Rows of these types.
+/// Returns a spawn of rows of these types.
 fn rows_of(alloc: Global, count: u32, types: &[TypeId]) -> Result<SpawnEntry, Fail> {
     let mut parts = Vec::new(alloc);
     for ty in types {
@@ -31,7 +31,7 @@ fn rows_of(alloc: Global, count: u32, types: &[TypeId]) -> Result<SpawnEntry, Fa
     Ok(rows(count, parts))
 }
 
-/// The world after spawns of these types.
+/// Returns the world after spawns of these types.
 fn world_of(alloc: Global, spawns: &[(u32, &[TypeId])]) -> Result<PlainWorld, Fail> {
     let mut entries = Vec::new(alloc);
     for (count, types) in spawns {

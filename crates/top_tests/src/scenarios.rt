@@ -2,8 +2,10 @@
 use ent_types::{Sequence, TypeSet};
 use expr_trees::PartExpr;
 use plain_world::{PlainWorld, is_runnable, run_scenario, spawn_all};
+use scenario_check::check;
+use scenario_laws::what_is_read_can_be_checked;
 use scenario_read::read_scenario;
-use scenario_record::{Scenario, SpawnEntry};
+use scenario_record::{Plan, Scenario, SpawnEntry};
 use std::alloc::Global;
 use std::test::Fail;
 
@@ -20,19 +22,27 @@ spawn = [{ count = 2, with = { Count = [5] } }]
 system = [{ name = 'Tick', all = ['Count'], set = ['Count.v = Count.v + 1'] }]
 ";
 
-/// The scenario.
+/// Returns the scenario.
 pub(crate) fn tick(alloc: Global) -> Result<Scenario, Fail> {
     Ok(read_scenario(alloc, TICK.as_bytes())?)
 }
 
-/// The scenario with other spawns.
+/// Returns the scenario with its plan: seven steps, of which the fifth runs the system.
+pub(crate) fn planned_tick(alloc: Global) -> Result<(Scenario, Plan), Fail> {
+    what_is_read_can_be_checked();
+    let scenario = read_scenario(alloc, TICK.as_bytes())?;
+    let plan = check(alloc, &scenario)?;
+    Ok((scenario, plan))
+}
+
+/// Returns the scenario with other spawns.
 pub(crate) fn with_spawns(alloc: Global, spawns: Vec<SpawnEntry>) -> Result<Scenario, Fail> {
     let mut scenario = tick(alloc)?;
     scenario.spawn = Sequence::from_vec(spawns);
     Ok(scenario)
 }
 
-/// Rows with these parts.
+/// Returns a spawn of rows with these parts.
 pub(crate) fn rows(count: u32, parts: Vec<PartExpr>) -> SpawnEntry {
     SpawnEntry {
         count,
@@ -41,7 +51,7 @@ pub(crate) fn rows(count: u32, parts: Vec<PartExpr>) -> SpawnEntry {
     }
 }
 
-/// The world after the spawns.
+/// Returns the world after the spawns.
 pub(crate) fn spawned(alloc: Global, scenario: &Scenario) -> Result<PlainWorld, Fail> {
     if !is_runnable(scenario) {
         return Err("not to be run".into());
@@ -49,10 +59,10 @@ pub(crate) fn spawned(alloc: Global, scenario: &Scenario) -> Result<PlainWorld, 
     Ok(spawn_all(alloc, scenario)?)
 }
 
-/// The world after all frames.
-pub(crate) fn run(alloc: Global, scenario: &Scenario) -> Result<PlainWorld, Fail> {
-    if !is_runnable(scenario) {
+/// Returns the world after all frames.
+pub(crate) fn run(alloc: Global, scenario: &Scenario, plan: &Plan) -> Result<PlainWorld, Fail> {
+    if !is_runnable(scenario) || plan.steps.len() > 7 {
         return Err("not to be run".into());
     }
-    Ok(run_scenario(alloc, scenario)?)
+    Ok(run_scenario(alloc, scenario, plan)?)
 }

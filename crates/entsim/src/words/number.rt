@@ -1,8 +1,8 @@
-//! Numbers among the words.
+//! Numbers on the command line.
 ghost use Rattle.std.specs.Prelude.{◌≡◌, ℕ};
 ghost use Rattle.entsim.specs.Words.{number_of, number_between};
 
-/// The number that a word spells: decimal digits without a leading zero, at most `u64::MAX`.
+/// Reads a number: decimal digits without a leading zero, at most `u64::MAX`.
 pub fn read_number(word: &str) -> Option<u64>
     ensures { result ≡ number_of word.now }
 {
@@ -19,7 +19,7 @@ pub fn read_number(word: &str) -> Option<u64>
     word.parse().ok()
 }
 
-/// The same, if it lies between the two bounds.
+/// Reads a number from `low` to `high`.
 pub fn read_number_between(word: &str, low: u32, high: u32) -> Option<u32>
     ensures { result ≡ number_between low high word.now }
 {

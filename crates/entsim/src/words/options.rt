@@ -4,19 +4,19 @@ ghost use Rattle.entsim.specs.Words.{no_options, with_workers, with_trace, with_
 
 use super::number::read_number_between;
 
-/// The options that were named, with their values.
+/// The options of a command line, with their values.
 #[derive(Clone, Copy)]
 pub struct Options {
-    /// `--workers N`: how many threads may run the systems, 1 to 64.
+    /// How many threads may run the systems, 1 to 64: `--workers N`.
     pub workers: Option<u32>,
-    /// `--trace`: whether the items are printed too.
+    /// `true` if the items are printed too: `--trace`.
     pub trace: bool,
-    /// `--scene K`: which of the two generated scenes, 1 or 2.
+    /// Which of the two generated scenes, 1 or 2: `--scene K`.
     pub scene: Option<u32>,
 }
 
 impl Options {
-    /// No option.
+    /// Returns no option.
     fn none() -> Self
         ensures { result ≡ no_options }
     {
@@ -64,7 +64,7 @@ impl Options {
     }
 }
 
-/// The options that the words name, in any order, each at most once; an option's value is the word after it.
+/// Reads options in any order, each at most once. An option's value is the word after it.
 pub fn read_options(words: &[String]) -> Option<Options>
     ensures { result ≡ options_of (map string_bytes words.now) }
 {

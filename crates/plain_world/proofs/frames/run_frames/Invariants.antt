@@ -9,8 +9,8 @@ use Rattle.plain_world.proofs.frames.run_frames.Given as goal
 abbrev pub invariant-loop-before : goal.invariant-loop-before
 invariant-loop-before l =
     record {
-      world : world_of l.world ≡ fold (framed l.scenario) (world_of l.initial.world) (range_with_len 1 l.before);
+      world : world_of l.world ≡ fold (framed l.scenario l.steps) (world_of l.initial.world) (range_with_len 1 l.before);
       even : AreEven l.world.blocks.items;
       placed : IsPlaced l.world;
-      moment : l.world.moment ≡ l.initial.world.moment + l.before * (length l.scenario.system + 6);
+      moment : l.world.moment ≡ l.initial.world.moment + l.before * length l.steps;
     }
