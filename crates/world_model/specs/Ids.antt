@@ -1,5 +1,5 @@
 -- How entities are named: the next name, what becomes of the name of an entity that ends, and how many more can be made.
-use Rattle.std.specs.Prelude.{ℕ, zero, suc, ◌+◌, ◌-◌, min, List, [], ◌∷◌, length, if◌then◌else◌, nat_eq}
+use Rattle.std.specs.Prelude.{ℕ, zero, suc, ◌+◌, ◌-◌, min, List, [], ◌∷◌, length, drop, if◌then◌else◌, nat_eq}
 use Rattle.ent_types.specs.declared.entity.Entity.{Entity}
 use Rattle.world_model.specs.World.{World}
 use Rattle.world_model.specs.Found.{alive_count}
@@ -45,10 +45,9 @@ next_id w = (given_by w).entity
 abbrev pub with_id_taken : World → World
 with_id_taken w = record w { free = (given_by w).free; made = (given_by w).made }
 
--- the world after so many names were given out
+-- the world after so many names were given out: the first of the free ones, and then fresh indexes
 abbrev pub with_ids_taken : ℕ → World → World
-with_ids_taken zero w = w
-with_ids_taken (suc n) w = with_ids_taken n (with_id_taken w)
+with_ids_taken n w = record w { free = drop n w.free; made = w.made + (n - length w.free) }
 
 -- the world with the name of an entity that ended
 abbrev pub with_id_given : Entity → World → World

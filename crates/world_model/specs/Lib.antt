@@ -1,3 +1,4 @@
+pub mod Members
 pub mod Part
 pub mod Row
 pub mod World
@@ -6,9 +7,8 @@ pub mod Ids
 pub mod Enter
 pub mod Leave
 pub mod Write
-pub mod Operations
-pub mod Members
 pub mod Fits
+pub mod Operations
 pub mod Lawful
 pub mod Versions
 pub mod Scenes
