@@ -3,6 +3,7 @@ pub mod Part
 pub mod Row
 pub mod World
 pub mod Found
+pub mod Reads
 pub mod Ids
 pub mod Enter
 pub mod Leave
