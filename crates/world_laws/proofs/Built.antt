@@ -150,13 +150,17 @@ built_registry capacity fits registry lawful load fit nodes all = (built_good ca
 
 -- ---- entities
 
+-- the entity of the node at a place
+abbrev first_of : ℕ → Entity
+first_of i = record { index = i; version = 1 }
+
 -- so many nodes were built: all entities so far are alive, and none was freed
 record HasNodes (n : ℕ) (w : World) : Type 0 where
   free : w.free ≡ []
   made : w.made ≡ n
   first : w.first_entity_version ≡ 1
   alive : alive_count w ≡ n
-  all : (i : ℕ) → i < n → In (record { index = i; version = 1 }) (map entity_of (placed w.blocks))
+  all : (i : ℕ) → i < n → In (first_of i) (map entity_of (placed w.blocks))
 
 entities_put : (row : Row) (xs : List Found) → map entity_of (map (put_in row) xs) ≡ map entity_of xs
 entities_put row [] = refl
@@ -182,7 +186,7 @@ module _ (capacity : List ℕ → ℕ) where
         made = h.made;
         first = h.first;
         alive = ap length (rewrite_placed w.moment (t ∷ []) (row x) w.blocks) ∙ (length_map (put_in (row x)) (placed w.blocks) ∙ h.alive);
-        all = λ i less. subst (In (record { index = i; version = 1 })) (sym (ap (map entity_of) (rewrite_placed w.moment (t ∷ []) (row x) w.blocks) ∙ entities_put (row x) (placed w.blocks))) (h.all i less);
+        all = λ i less. subst (In (first_of i)) (sym (ap (map entity_of) (rewrite_placed w.moment (t ∷ []) (row x) w.blocks) ∙ entities_put (row x) (placed w.blocks))) (h.all i less);
       }
 
       step : (o : Option Found) → HasNodes n (acted capacity w e (SetEnabled t false) o).world
@@ -210,26 +214,29 @@ module _ (capacity : List ℕ → ℕ) where
         all = λ i less. in_made i (in_entities i less);
       }
         where
-          next : next_id w ≡ record { index = n; version = 1 }
+          next : next_id w ≡ first_of n
           next = ap (λ fs. (take_id fs w.made w.first_entity_version).entity) is ∙ ap₂ (λ m v. let e : Entity = record { index = m; version = v } in e) h.made h.first
 
-          in_made : (i : ℕ) → (x : Found) × In x (record { home = home; row = row (next_id w) } ∷ placed w.blocks) × (record { index = i; version = 1 } ≡ entity_of x)
-              → In (record { index = i; version = 1 }) (map entity_of (placed (made capacity home cells w).blocks))
-          in_made i (x, j, same) =
-              subst (λ d. In d (map entity_of (placed (made capacity home cells w).blocks))) (sym same)
-              (map_in entity_of x (placed (made capacity home cells w).blocks) (perm_in x (perm_back (enter_perm (capacity home.types) w.moment home (row (next_id w)) w.blocks)) j))
+          new : Found
+          new = record { home = home; row = row (next_id w) }
 
-          in_entities : (i : ℕ) → i < n + 1 → (x : Found) × In x (record { home = home; row = row (next_id w) } ∷ placed w.blocks) × (record { index = i; version = 1 } ≡ entity_of x)
+          in_made : (i : ℕ) → (x : Found) × In x (new ∷ placed w.blocks) × (first_of i ≡ entity_of x)
+              → In (first_of i) (map entity_of (placed (made capacity home cells w).blocks))
+          in_made i t =
+              subst (λ d. In d (map entity_of (placed (made capacity home cells w).blocks))) (sym t.2)
+              (map_in entity_of t.0 (placed (made capacity home cells w).blocks) (perm_in t.0 (perm_back (enter_perm (capacity home.types) w.moment home (row (next_id w)) w.blocks)) t.1))
+
+          in_entities : (i : ℕ) → i < n + 1 → (x : Found) × In x (new ∷ placed w.blocks) × (first_of i ≡ entity_of x)
           in_entities i less = step (nat_lt i n) refl
             where
-              step : (b : Bool) → nat_lt i n ≡ b → (x : Found) × In x (record { home = home; row = row (next_id w) } ∷ placed w.blocks) × (record { index = i; version = 1 } ≡ entity_of x)
+              step : (b : Bool) → nat_lt i n ≡ b → (x : Found) × In x (new ∷ placed w.blocks) × (first_of i ≡ entity_of x)
               step true is =
-                  let (x, j, same) = in_map entity_of (record { index = i; version = 1 }) (placed w.blocks) (h.all i (ltb-true i n is)) in
+                  let (x, j, same) = in_map entity_of (first_of i) (placed w.blocks) (h.all i (ltb-true i n is)) in
                   (x, inr j, same)
               step false is =
                   let le = ltb-false i n is in
-                  let at : i ≡ n = omega arith in
-                  (record { home = home; row = row (next_id w) }, inl refl, ap (λ k. let e : Entity = record { index = k; version = 1 } in e) at ∙ sym next)
+                  let same : i ≡ n = omega arith in
+                  (new, inl refl, ap first_of same ∙ sym next)
 
   room_is : (n : ℕ) (w : World) → HasNodes n w → n < 1048576 → nat_eq (room w) 0 ≡ false
   room_is n w h less = (let a = h.alive in let m = h.made in let f : length w.free ≡ 0 = ap length h.free in unequal (room w) (omega arith))
@@ -274,15 +281,15 @@ module _ (capacity : List ℕ → ℕ) where
 -- ---- in order
 
 -- the entities by index, where each of a range is there with version 1
-in_range : (f : ℕ → Option Found) (a n : ℕ) → ((i : ℕ) → a ≤ i → i < a + n → (x : Found) × (f i ≡ Some x) × (entity_of x ≡ record { index = i; version = 1 }))
+in_range : (f : ℕ → Option Found) (a n : ℕ) → ((i : ℕ) → a ≤ i → i < a + n → (x : Found) × (f i ≡ Some x) × (entity_of x ≡ first_of i))
     → map entity_of (filter_map f (range_with_len a n)) ≡ next_ids n [] a 1
 in_range f a zero all = refl
 in_range f a (suc n) all = step (all a (omega arith) (omega arith)) (in_range f (a + 1) n (λ i from within. all i (omega arith) (omega arith)))
   where
-    step : (x : Found) × (f a ≡ Some x) × (entity_of x ≡ record { index = a; version = 1 }) → map entity_of (filter_map f (range_with_len (a + 1) n)) ≡ next_ids n [] (a + 1) 1
-        → map entity_of (cons_option (f a) (filter_map f (range_with_len (a + 1) n))) ≡ record { index = a; version = 1 } ∷ next_ids n [] (a + 1) 1
-    step (x, is, same) rest =
-        ap (λ o. map entity_of (cons_option o (filter_map f (range_with_len (a + 1) n)))) is ∙ ap₂ (λ (e : Entity) es. e ∷ es) same rest
+    step : (x : Found) × (f a ≡ Some x) × (entity_of x ≡ first_of a) → map entity_of (filter_map f (range_with_len (a + 1) n)) ≡ next_ids n [] (a + 1) 1
+        → map entity_of (cons_option (f a) (filter_map f (range_with_len (a + 1) n))) ≡ first_of a ∷ next_ids n [] (a + 1) 1
+    step t rest =
+        ap (λ o. map entity_of (cons_option o (filter_map f (range_with_len (a + 1) n)))) t.1 ∙ ap₂ (λ (e : Entity) es. e ∷ es) t.2 rest
 
 pub built_in_order : (capacity : List ℕ → ℕ) → HasRoomForParts capacity → (registry : List TypeInfo) → IsLawfulRegistry registry → (load : ℕ) → fits_field I64 (Int (pos load)) ≡ true
     → (nodes : List Node) → ((node : Node) → In node nodes → IsLawfulNode registry node)
@@ -319,12 +326,17 @@ built_in_order capacity fits registry lawful load fit nodes all have few =
         none : (i : ℕ) → i < 0 → ⊥
         none i less = omega arith
 
-    h : HasNodes (0 + length nodes) w
-    h = nodes_nodes capacity rs load nodes 0 (empty_world registry 1 1) (λ n i. ap (λ ts. nat_eq (capacity ts) 0) (tagged_same n.parts) ∙ have n i) few start
+    from_zero : (k : ℕ) → 0 + k ≡ k
+    from_zero k = omega arith
 
-    there : (i : ℕ) → i < 0 + length nodes → (x : Found) × (find (has_index i) (placed w.blocks) ≡ Some x) × (entity_of x ≡ record { index = i; version = 1 })
+    h : HasNodes (length nodes) w
+    h =
+        subst (λ m. HasNodes m w) (from_zero (length nodes))
+        (nodes_nodes capacity rs load nodes 0 (empty_world registry 1 1) (λ n i. ap (λ ts. nat_eq (capacity ts) 0) (tagged_same n.parts) ∙ have n i) (omega arith) start)
+
+    there : (i : ℕ) → i < length nodes → (x : Found) × (find (has_index i) (placed w.blocks) ≡ Some x) × (entity_of x ≡ first_of i)
     there i less =
-        let (x, j, same) = in_map entity_of (record { index = i; version = 1 }) (placed w.blocks) (h.all i less) in
+        let (x, j, same) = in_map entity_of (first_of i) (placed w.blocks) (h.all i less) in
         (x, find_only (has_index i) x (placed w.blocks) j (eq-eqb i x.row.entity.index (ap (λ (d : Entity). d.index) same)) once, sym same)
       where
         most : (b : Bool) → one_if b ≤ 1
