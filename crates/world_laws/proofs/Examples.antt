@@ -15,6 +15,7 @@ use Rattle.ent_types.specs.TypeSets.{has_type}
 use Rattle.world_model.specs.Part.{PartOf}
 use Rattle.world_model.specs.Row.{Cell, Row}
 use Rattle.world_model.specs.World.{Home, Mark, Block, World, empty_world}
+use Rattle.world_model.specs.Reads.{value_of, elements_of, element_of}
 use Rattle.world_model.specs.Ids.{room, next_ids}
 use Rattle.world_model.specs.Enter.{enter}
 use Rattle.world_model.specs.Leave.{leave}
@@ -348,6 +349,28 @@ clear_all = refl
 clear_lacking : reply one (On (e 0 1) (Clear 8)) ≡ Skipped NoComponent
 unfolding operate
 clear_lacking = refl
+
+-- ---- reading
+
+-- a shared value and an own one, also of a type that is disabled; a type that isn't there and a field that isn't there
+read_values : map (λ t. value_of team (e 0 1) t 0) (3 ∷ 5 ∷ 6 ∷ []) ≡ Some (Int (pos 7)) ∷ Some (Int (pos 2)) ∷ None ∷ []
+read_values = refl
+
+read_of_none : value_of team (e 0 2) 3 0 ≡ None
+read_of_none = refl
+
+read_past_fields : value_of team (e 0 1) 3 1 ≡ None
+read_past_fields = refl
+
+read_elements : elements_of (list (Int (pos 1) ∷ Int (pos 2) ∷ [])) (e 0 1) 8 ≡ Some 2
+read_elements = refl
+
+read_element : map (λ k. element_of (list (Int (pos 1) ∷ Int (pos 2) ∷ [])) (e 0 1) 8 k 0) (0 ∷ 1 ∷ 2 ∷ []) ≡ Some (Int (pos 1)) ∷ Some (Int (pos 2)) ∷ None ∷ []
+read_element = refl
+
+-- a field that the type lacks isn't that of the next element
+read_element_past_fields : element_of (list (Int (pos 1) ∷ Int (pos 2) ∷ [])) (e 0 1) 8 0 1 ≡ None
+read_element_past_fields = refl
 
 -- ---- scenes
 

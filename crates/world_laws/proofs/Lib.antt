@@ -13,3 +13,9 @@ pub mod Kept
 pub mod Versions
 pub mod Meanings
 pub mod Examples
+pub mod Taking
+pub mod ByIndex
+pub mod Renaming
+pub mod Moved
+pub mod MovedVersions
+pub mod Built

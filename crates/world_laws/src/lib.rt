@@ -2,16 +2,23 @@
 //! does nothing, whose contract is the law.
 #![tactic(auto)]
 
-ghost use Rattle.std.specs.Prelude.{◌≡◌, ℕ, ◌<◌, ◌≤◌, List, None, Some};
+ghost use Rattle.std.specs.Prelude.{◌≡◌, ℕ, ◌<◌, ◌≤◌, nat_eq, true, false, List, [], ◌∷◌, map, length, pos, None, Some};
 ghost use Rattle.ent_types.specs.declared.entity.Entity.{Entity};
+ghost use Rattle.ent_types.specs.declared.kinds.FieldKind.TheVariants.{I64};
+ghost use Rattle.ent_types.specs.declared.limits.TheConstants.{MOST_ENTITIES};
 ghost use Rattle.ent_types.specs.declared.type_info.TypeInfo.{TypeInfo};
-ghost use Rattle.ent_types.specs.Fitting.{null_entity};
-ghost use Rattle.world_model.specs.Members.{In};
+ghost use Rattle.ent_types.specs.declared.value.Value.TheVariants.{Int};
+ghost use Rattle.ent_types.specs.Fitting.{null_entity, fits_field};
+ghost use Rattle.ent_types.specs.Registries.{IsLawfulRegistry};
+ghost use Rattle.world_model.specs.Members.{In, AreDistinct};
+ghost use Rattle.world_model.specs.Part.{part_type, by_type};
 ghost use Rattle.world_model.specs.World.{World, capacity};
-ghost use Rattle.world_model.specs.Found.{Found, placed, found};
+ghost use Rattle.world_model.specs.Found.{Found, placed, found, alive_count, entities_by_index};
+ghost use Rattle.world_model.specs.Ids.{room, next_ids};
 ghost use Rattle.world_model.specs.Operations.{Operation, operate};
 ghost use Rattle.world_model.specs.Lawful.{IsLawful, HasRoomForParts, Suits};
 ghost use Rattle.world_model.specs.Versions.{world_versions, answer_versions, IsLawfulCode};
+ghost use Rattle.world_model.specs.Scenes.{Node, IsLawfulNode, scene_tag, built, renamed, value_renamed, arrivals, row_moved, attached, moved};
 
 /// Where a block has room for rows of some types, it has room for rows of a part of them.
 #[tactic(auto, using(crate::proofs::Meanings::capacity_fits))]
@@ -39,16 +46,62 @@ pub fn who_is_not_alive()
     ensures made { (capacity : List ℕ → ℕ) (w : World) → IsLawful capacity w → (x : Found) → In x (placed w.blocks) → x.row.entity.index < w.made }
 {}
 
-/// An operation on a world with versions gives what it gives on the world with moments, with versions in their place.
-#[tactic(auto, using(crate::proofs::Versions::operate_turned))]
+/// An operation on a world with versions, or a scene moved into it, gives what it gives on the world with moments, with
+/// versions in their place. The versions of the scene are not read.
 pub fn versions_stand_for_moments()
-    ensures { (version : ℕ → ℕ) (capacity : List ℕ → ℕ) (w : World) (operation : Operation)
+    ensures operations { (version : ℕ → ℕ) (capacity : List ℕ → ℕ) (w : World) (operation : Operation)
         → operate capacity (world_versions version w) operation ≡ answer_versions version (operate capacity w operation) }
+    ensures moved { (version own : ℕ → ℕ) (w scene : World) → moved (world_versions version w) (world_versions own scene) ≡ world_versions version (moved w scene) }
+    ensures attached { (version own : ℕ → ℕ) (w scene : World) → attached (world_versions version w) (world_versions own scene) ≡ world_versions version (attached w scene) }
 {}
 
-/// An operation keeps a world of the code lawful.
-#[tactic(auto, using(crate::proofs::Versions::operate_lawful_code))]
-pub fn operations_keep_code_lawful()
-    ensures { (capacity : List ℕ → ℕ) → HasRoomForParts capacity → (code : World) (operation : Operation) → Suits code.registry operation
+/// An operation, or a scene moved in, keeps a world of the code lawful.
+pub fn code_stays_lawful()
+    ensures moved { (capacity : List ℕ → ℕ) (code scene : World) → IsLawfulCode capacity code → IsLawfulCode capacity scene
+        → scene.registry ≡ code.registry → alive_count scene ≤ room code → IsLawfulCode capacity (moved code scene) }
+    ensures operations { (capacity : List ℕ → ℕ) → HasRoomForParts capacity → (code : World) (operation : Operation) → Suits code.registry operation
         → IsLawfulCode capacity code → IsLawfulCode capacity (operate capacity code operation).world }
+{}
+
+/// The world of lawful nodes is lawful. If the types of each node have room, the entities are in the order of the nodes:
+/// node `k` is the entity with index `k` and version 1.
+pub fn built_scenes_are_lawful()
+    ensures lawful { (capacity : List ℕ → ℕ) → HasRoomForParts capacity → (registry : List TypeInfo) → IsLawfulRegistry registry
+        → (load : ℕ) → fits_field I64 (Int (pos load)) ≡ true → (nodes : List Node) → ((node : Node) → In node nodes → IsLawfulNode registry node)
+        → IsLawful capacity (built capacity registry nodes load) }
+    ensures order { (capacity : List ℕ → ℕ) → HasRoomForParts capacity → (registry : List TypeInfo) → IsLawfulRegistry registry
+        → (load : ℕ) → fits_field I64 (Int (pos load)) ≡ true → (nodes : List Node) → ((node : Node) → In node nodes → IsLawfulNode registry node)
+        → ((node : Node) → In node nodes → nat_eq (capacity (map part_type (by_type (scene_tag load ∷ node.parts)))) 0 ≡ false) → length nodes ≤ MOST_ENTITIES
+        → entities_by_index (built capacity registry nodes load) ≡ next_ids (length nodes) [] 0 1 }
+{}
+
+/// A lawful world with room for the entities of a lawful scene is lawful after the scene was moved in or attached.
+pub fn moved_scenes_are_lawful()
+    ensures moved { (capacity : List ℕ → ℕ) (w scene : World) → IsLawful capacity w → IsLawful capacity scene → scene.registry ≡ w.registry → alive_count scene ≤ room w
+        → IsLawful capacity (moved w scene) }
+    ensures attached { (capacity : List ℕ → ℕ) (w scene : World) → IsLawful capacity w → IsLawful capacity scene → scene.registry ≡ w.registry → alive_count scene ≤ room w
+        → IsLawful capacity (attached w scene) }
+{}
+
+/// The entities of a scene get the next ids of the world, in order of their indexes. None of these ids is alive in the
+/// world, and no two have one index. Every entity that isn't alive in the scene becomes null.
+pub fn arrivals_get_new_ids()
+    ensures order { (capacity : List ℕ → ℕ) (w scene : World) → IsLawful capacity scene
+        → map (renamed (arrivals w scene)) (entities_by_index scene) ≡ next_ids (alive_count scene) w.free w.made w.first_entity_version }
+    ensures new { (capacity : List ℕ → ℕ) (w : World) → IsLawful capacity w → (n : ℕ) (e : Entity) → In e (next_ids n w.free w.made w.first_entity_version)
+        → found e w.blocks ≡ None }
+    ensures distinct { (capacity : List ℕ → ℕ) (w : World) → IsLawful capacity w → (n : ℕ)
+        → AreDistinct (map (λ (e : Entity). e.index) (next_ids n w.free w.made w.first_entity_version)) }
+    ensures others { (capacity : List ℕ → ℕ) (w scene : World) → IsLawful capacity scene → (e : Entity) → found e scene.blocks ≡ None
+        → renamed (arrivals w scene) e ≡ null_entity }
+{}
+
+/// After a scene was moved in, each row of the scene is found by its new entity, with all references renamed, and each
+/// row of the world is found as before.
+pub fn moved_scenes_keep_rows()
+    ensures scene { (capacity : List ℕ → ℕ) (w scene : World) → IsLawful capacity w → IsLawful capacity scene → scene.registry ≡ w.registry → alive_count scene ≤ room w
+        → (x : Found) → In x (placed scene.blocks)
+        → found (renamed (arrivals w scene) x.row.entity) (moved w scene).blocks ≡ Some (record x { row = row_moved (arrivals w scene) (value_renamed (arrivals w scene)) x.row }) }
+    ensures world { (capacity : List ℕ → ℕ) (w scene : World) → IsLawful capacity w → IsLawful capacity scene → scene.registry ≡ w.registry → alive_count scene ≤ room w
+        → (x : Found) → In x (placed w.blocks) → found x.row.entity (moved w scene).blocks ≡ Some x }
 {}

@@ -1,6 +1,7 @@
 -- How entities are named: the next name, what becomes of the name of an entity that ends, and how many more can be made.
-use Rattle.std.specs.Prelude.{ℕ, zero, suc, ◌+◌, ◌-◌, min, List, [], ◌∷◌, length, if◌then◌else◌, nat_eq}
+use Rattle.std.specs.Prelude.{ℕ, zero, suc, ◌+◌, ◌-◌, min, List, [], ◌∷◌, length, drop, if◌then◌else◌, nat_eq}
 use Rattle.ent_types.specs.declared.entity.Entity.{Entity}
+use Rattle.ent_types.specs.declared.limits.TheConstants.{MOST_ENTITIES, MOST_INDEXES}
 use Rattle.world_model.specs.World.{World}
 use Rattle.world_model.specs.Found.{alive_count}
 
@@ -25,9 +26,9 @@ next_ids (suc n) free made first =
 abbrev pub give_id : Entity → List Entity → List Entity
 give_id e free = if nat_eq e.version 4294967295 then free else (record { index = e.index; version = e.version + 1 } ∷ free)
 
--- how many entities can be made: at most 1,048,576 are alive, and at most 4,194,304 indexes are made
+-- how many entities can be made: at most so many are alive, and at most so many indexes are made
 abbrev pub room_of : ℕ → ℕ → ℕ → ℕ
-room_of alive free made = min (1048576 - alive) (free + (4194304 - made))
+room_of alive free made = min (MOST_ENTITIES - alive) (free + (MOST_INDEXES - made))
 
 -- ---- the same in a world
 
@@ -45,10 +46,9 @@ next_id w = (given_by w).entity
 abbrev pub with_id_taken : World → World
 with_id_taken w = record w { free = (given_by w).free; made = (given_by w).made }
 
--- the world after so many names were given out
+-- the world after so many names were given out: the first of the free ones, and then fresh indexes
 abbrev pub with_ids_taken : ℕ → World → World
-with_ids_taken zero w = w
-with_ids_taken (suc n) w = with_ids_taken n (with_id_taken w)
+with_ids_taken n w = record w { free = drop n w.free; made = w.made + (n - length w.free) }
 
 -- the world with the name of an entity that ended
 abbrev pub with_id_given : Entity → World → World

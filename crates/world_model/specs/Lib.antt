@@ -1,14 +1,15 @@
+pub mod Members
 pub mod Part
 pub mod Row
 pub mod World
 pub mod Found
+pub mod Reads
 pub mod Ids
 pub mod Enter
 pub mod Leave
 pub mod Write
-pub mod Operations
-pub mod Members
 pub mod Fits
+pub mod Operations
 pub mod Lawful
 pub mod Versions
 pub mod Scenes

@@ -7,11 +7,13 @@ use Rattle.ent_types.specs.declared.value.Value.{Value}
 use Rattle.ent_types.specs.declared.value.Value.TheVariants.{Int, Ref}
 use Rattle.ent_types.specs.Fitting.{null_entity}
 use Rattle.ent_types.specs.TypeLookups.{fields_at}
-use Rattle.world_model.specs.Part.{PartOf, part_map, same_entity}
+use Rattle.world_model.specs.Members.{In, AreDistinct}
+use Rattle.world_model.specs.Part.{PartOf, part_type, part_map, same_entity}
 use Rattle.world_model.specs.Row.{Row, Cell}
 use Rattle.world_model.specs.World.{Block, World, empty_world}
 use Rattle.world_model.specs.Found.{Found, found, alive_count, entities_by_index}
 use Rattle.world_model.specs.Ids.{next_ids, with_ids_taken}
+use Rattle.world_model.specs.Fits.{IsKnown, IsFitting}
 use Rattle.world_model.specs.Enter.{marks_at}
 use Rattle.world_model.specs.Write.{rewrite}
 use Rattle.world_model.specs.Operations.{Operation, Create, On, SetEnabled, Reply, Made, Done, Skipped, Answer, with_values, written, operate}
@@ -58,6 +60,12 @@ pub record Node : Type 0 where
   pub entity : Entity
   pub parts : List (PartOf Value)
   pub disabled : List ℕ
+
+-- Nodes as a scene file has them: known types, none of them twice and none of them SceneTag, and values that fit.
+pub record IsLawfulNode (registry : List TypeInfo) (node : Node) : Type 0 where
+  pub fit : (p : PartOf Value) → In p node.parts → IsFitting registry p
+  pub distinct : AreDistinct (SCENE_TAG.0 ∷ map part_type node.parts)
+  pub known : (t : ℕ) → In t node.disabled → IsKnown registry t
 
 -- the part that says with which load a row came
 abbrev pub scene_tag : ℕ → PartOf Value
