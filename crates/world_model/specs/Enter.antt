@@ -1,39 +1,14 @@
 -- How a new entity gets its name, and how a row enters a block.
-use Rattle.std.specs.Prelude.{ℕ, ◌+◌, Bool, false, ◌&&◌, if◌then◌else◌, nat_eq, nat_lt, List, [], ◌∷◌, ◌++◌, length, map}
-use Rattle.std.specs.Ordering.{int_eq}
+use Rattle.std.specs.Prelude.{ℕ, zero, suc, ◌+◌, Bool, ◌&&◌, if◌then◌else◌, nat_eq, nat_lt, List, [], ◌∷◌, ◌++◌, length, map}
 use Rattle.std.specs.Cmp.Lexicographic.{pointwise}
 use Rattle.ent_types.specs.declared.entity.Entity.{Entity}
-use Rattle.ent_types.specs.declared.value.Value.{Value}
-use Rattle.ent_types.specs.declared.value.Value.TheVariants.{Int, Ref}
+use Rattle.world_model.specs.Part.{same_part}
 use Rattle.world_model.specs.Row.{Row}
-use Rattle.world_model.specs.World.{Block, Home, Mark, SharedValues}
+use Rattle.world_model.specs.World.{Block, Home, Mark}
 
--- a world that has given out an entity, with that entity
-pub record Given : Type 0 where
-  pub entity : Entity
-  pub free : List Entity
-  pub made : ℕ
-
--- the next entity: the one that was freed last, or, where none is free, the next fresh index with the first version
-abbrev pub take_id : List Entity → ℕ → ℕ → Given
-take_id (e ∷ es) made first = record { entity = e; free = es; made = made }
-take_id [] made first = record { entity = record { index = made; version = first }; free = []; made = made + 1 }
-
--- two values, two lists of values, two homes are the same
-abbrev pub same_entity : Entity → Entity → Bool
-same_entity d e = nat_eq d.index e.index && nat_eq d.version e.version
-
-abbrev pub same_value : Value → Value → Bool
-same_value (Int y) (Int z) = int_eq y z
-same_value (Ref d) (Ref e) = same_entity d e
-same_value (Int y) (Ref e) = false
-same_value (Ref d) (Int z) = false
-
-abbrev pub same_shared : SharedValues → SharedValues → Bool
-same_shared a b = nat_eq a.type_id b.type_id && pointwise same_value a.values b.values
-
+-- two homes are the same
 abbrev pub same_home : Home → Home → Bool
-same_home a b = pointwise nat_eq a.types b.types && pointwise same_shared a.shared b.shared
+same_home a b = pointwise nat_eq a.types b.types && pointwise same_part a.shared b.shared
 
 -- every type of a home marked at a moment
 abbrev pub marks_at : ℕ → List ℕ → List Mark
@@ -47,9 +22,18 @@ entered now row b = record b { marks = marks_at now b.home.types; rows = b.rows 
 abbrev pub new_block : ℕ → Home → Row → Block
 new_block now home row = record { home = home; marks = marks_at now home.types; rows = row ∷ []; order = now }
 
+-- whether a row of this home can enter a block that holds so many rows at most
+abbrev pub has_room : ℕ → Home → Block → Bool
+has_room capacity home b = same_home home b.home && nat_lt (length b.rows) capacity
+
+-- the place of the first block that has room; past the end where there is none
+abbrev pub room_place : ℕ → Home → List Block → ℕ
+room_place capacity home [] = zero
+room_place capacity home (b ∷ bs) = if has_room capacity home b then zero else suc (room_place capacity home bs)
+
 -- A row enters the first block of this home with fewer rows than the capacity. Where there is none it enters a new
 -- last block.
-abbrev pub enter : ℕ → ℕ → Home → Row → List Block → List Block
+unfoldable pub enter : ℕ → ℕ → Home → Row → List Block → List Block
 enter capacity now home row [] = new_block now home row ∷ []
 enter capacity now home row (b ∷ bs) =
-    if same_home home b.home && nat_lt (length b.rows) capacity then entered now row b ∷ bs else b ∷ enter capacity now home row bs
+    if has_room capacity home b then entered now row b ∷ bs else b ∷ enter capacity now home row bs

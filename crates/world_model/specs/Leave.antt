@@ -2,9 +2,9 @@
 use Rattle.std.specs.Prelude.{ℕ, Bool, true, false, not, if◌then◌else◌, List, [], ◌∷◌, map, filter}
 use Rattle.std.specs.List.{list_any}
 use Rattle.ent_types.specs.declared.entity.Entity.{Entity}
+use Rattle.world_model.specs.Part.{same_entity}
 use Rattle.world_model.specs.Row.{Row}
 use Rattle.world_model.specs.World.{Block}
-use Rattle.world_model.specs.Enter.{same_entity}
 
 -- the last row, and the rows before it
 abbrev pub last_of : Row → List Row → Row
@@ -24,20 +24,17 @@ abbrev pub without_row : Entity → List Row → List Row
 without_row e [] = []
 without_row e (r ∷ rs) = replaced e (last_of r rs) (front_of r rs)
 
-abbrev pub has_entity : Entity → Block → Bool
-has_entity e b = list_any (λ r. same_entity e r.entity) b.rows
+abbrev pub has_entity : Entity → List Row → Bool
+has_entity e rows = list_any (λ r. same_entity e r.entity) rows
 
 -- the block without the entity's row, and its order marked; no type is marked
 abbrev pub left : ℕ → Entity → Block → Block
-left now e b = if has_entity e b then record b { rows = without_row e b.rows; order = now } else b
+left now e b = if has_entity e b.rows then record b { rows = without_row e b.rows; order = now } else b
 
-abbrev pub is_empty : Block → Bool
-is_empty b = no_rows b.rows
-  where
-    no_rows : List Row → Bool
-    no_rows [] = true
-    no_rows (r ∷ rs) = false
+abbrev pub no_rows : List Row → Bool
+no_rows [] = true
+no_rows (r ∷ rs) = false
 
 -- The row of the entity leaves. A block that is left without a row is removed.
-abbrev pub leave : ℕ → Entity → List Block → List Block
-leave now e blocks = filter (λ b. not (is_empty b)) (map (left now e) blocks)
+unfoldable pub leave : ℕ → Entity → List Block → List Block
+leave now e blocks = filter (λ b. not (no_rows b.rows)) (map (left now e) blocks)

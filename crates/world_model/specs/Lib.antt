@@ -1,4 +1,14 @@
+pub mod Part
 pub mod Row
 pub mod World
+pub mod Found
+pub mod Ids
 pub mod Enter
 pub mod Leave
+pub mod Write
+pub mod Operations
+pub mod Members
+pub mod Fits
+pub mod Lawful
+pub mod Versions
+pub mod Scenes

@@ -1,22 +1,18 @@
 -- The world: rows in blocks, and what is given to new entities.
-use Rattle.std.specs.Prelude.{ℕ, List, [], length, sum_by, map}
+use Rattle.std.specs.Prelude.{ℕ, ◌+◌, List, [], map}
 use Rattle.chunk_layout.specs.Capacity.{capacity_of}
 use Rattle.ent_types.specs.declared.entity.Entity.{Entity}
 use Rattle.ent_types.specs.declared.value.Value.{Value}
 use Rattle.ent_types.specs.declared.type_info.TypeInfo.{TypeInfo}
 use Rattle.ent_types.specs.Registries.{type_at}
 use Rattle.ent_types.specs.Types.{column_size}
+use Rattle.world_model.specs.Part.{PartOf}
 use Rattle.world_model.specs.Row.{Row}
-
--- the values of a shared type, which all rows of a block have
-pub record SharedValues : Type 0 where
-  pub type_id : ℕ
-  pub values : List Value
 
 -- where a row belongs: its types, and the values of its shared types, both by rising type
 pub record Home : Type 0 where
   pub types : List ℕ
-  pub shared : List SharedValues
+  pub shared : List (PartOf Value)
 
 -- the moment at which a type of a block was last written
 pub record Mark : Type 0 where
@@ -30,22 +26,33 @@ pub record Block : Type 0 where
   pub rows : List Row
   pub order : ℕ
 
--- The world without its types, which stand beside it: the blocks in order, the free entities with the one freed last first, how
--- many fresh indexes were made, the version that a fresh index has, and the present moment.
+-- The world: its types, where type t stands at place t; the blocks in order; the free entities, the one freed last first;
+-- how many fresh indexes were made; the version that a fresh index has; and the present moment.
 pub record World : Type 0 where
+  pub registry : List TypeInfo
   pub blocks : List Block
   pub free : List Entity
   pub made : ℕ
-  pub first_version : ℕ
+  pub first_entity_version : ℕ
   pub moment : ℕ
 
--- how many entities are alive, dying ones among them
-abbrev pub alive_count : World → ℕ
-alive_count w = sum_by (λ b. length b.rows) w.blocks
+abbrev pub mark_type : Mark → ℕ
+mark_type m = m.type_id
 
--- the empty world at the first moment
-abbrev pub empty_world : ℕ → World
-empty_world first = record { blocks = []; free = []; made = 0; first_version = first; moment = 1 }
+-- The empty world. A run begins at moment 1. The code has the first system version in its place.
+abbrev pub empty_world : List TypeInfo → ℕ → ℕ → World
+empty_world registry first_entity_version moment = record {
+  registry = registry;
+  blocks = [];
+  free = [];
+  made = 0;
+  first_entity_version = first_entity_version;
+  moment = moment;
+}
+
+-- The next moment, without any other change. The code has the next version in its place.
+abbrev pub raised : World → World
+raised w = record w { moment = w.moment + 1 }
 
 -- how many rows of these types fit into one block; a type without a column takes no bytes
 abbrev pub capacity : List TypeInfo → List ℕ → ℕ

@@ -1,0 +1,15 @@
+pub mod Perms
+pub mod Members
+pub mod Same
+pub mod Entering
+pub mod Leaving
+pub mod Writing
+pub mod Sound
+pub mod Types
+pub mod Elements
+pub mod Decided
+pub mod Blocks
+pub mod Kept
+pub mod Versions
+pub mod Meanings
+pub mod Examples
