@@ -51,7 +51,7 @@ impl<T: Copy> Elements<T> {
     /// Returns the number of elements.
     pub fn len(&self) -> u32
         ensures value { result ≡ count_of self.now }
-        ensures bound { result ≤ 4096 }
+        ensures bound { result ≤ MOST_ELEMENTS }
     {
         self.count
     }
@@ -71,8 +71,8 @@ impl<T: Copy> Elements<T> {
         ensures ok { OnOk result (self.new ≡ record self.old { values = self.old.values ++ values.now }) }
         ensures err { OnErr result (self.new ≡ self.old) }
         ensures answer { MatchResult result
-            (λ _. count_of self.old < 4096)
-            (λ f. (f ≡ fault.TooLong → count_of self.old ≡ 4096) × (f ≡ fault.Memory → count_of self.old < 4096)) }
+            (λ _. count_of self.old < MOST_ELEMENTS)
+            (λ f. (f ≡ fault.TooLong → count_of self.old ≡ MOST_ELEMENTS) × (f ≡ fault.Memory → count_of self.old < MOST_ELEMENTS)) }
     {
         if self.count >= MOST_ELEMENTS {
             return Err(PushFault::TooLong);
