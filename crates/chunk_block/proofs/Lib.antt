@@ -1,0 +1,9 @@
+pub mod Places
+pub mod Changed
+pub mod Pushed
+pub mod Swapped
+pub mod Lent
+pub mod Given
+pub mod Views
+pub mod Loans
+pub mod New

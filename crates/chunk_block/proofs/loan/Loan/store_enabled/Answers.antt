@@ -1,0 +1,31 @@
+use Rattle.std.proofs.Common.{ℕ, ◌≡◌, ◌<◌, ◌∙◌, sym, ap, subst, length, not, map, List}
+use Rattle.std.specs.Prelude.{⊤}
+use Rattle.ent_types.specs.declared.value.Value.{Value}
+use Rattle.buffer_store.specs.Buffers.{buffer}
+use Rattle.enable_bits.specs.Masks.{has}
+use Rattle.block_columns.specs.Columns.{value_at}
+use Rattle.block_columns.specs.Slices.{slice_values}
+use Rattle.block_columns.specs.Types.{TypeState, Content, cell_in, one_row, all_rows, with_value, with_off, with_values, with_reference_in, with_enabled_in, with_number_in, HasField, TakesValue, TakesNumbers, TakesReferences, TakesElements, IsEnableable, IsBuffer}
+use Rattle.block_columns.specs.declared.shape.TypeShape.{TypeShape}
+use Rattle.chunk_block.specs.Pieces.{OfPiece, InRow, OfRows, OfShape, change_piece, stored_numbers, pieces_in}
+use Rattle.chunk_block.specs.Blocks.{BlockState, LoanState, ArePiecesOf}
+use Rattle.chunk_block.proofs.Changed.{one_row_keeps, all_rows_keeps}
+use Rattle.chunk_block.proofs.Views.{stored_keeps}
+use Rattle.chunk_block.proofs.Loans.{still_pieces, of_piece, found_piece}
+use Rattle.chunk_block.proofs.loan.Loan.store_enabled.Goals as goal
+
+pub store_enabled-requires : goal.store_enabled-requires
+store_enabled-requires c =
+    let xs = pieces_in c.self.inside.pieces in
+    let of : OfPiece c.args.ty.0 (OfShape IsEnableable) xs = subst (λ (l : LoanState). OfPiece c.args.ty.0 (OfShape IsEnableable) l.pieces) (sym c.self.view_is) c.requires in
+    of
+
+pub returns-clause-loan : goal.returns-clause-loan
+returns-clause-loan c =
+    ap (λ (xs : List TypeState). record { number = c.self.inside.number; types = c.self.inside.types; pieces = xs }) c.store_enabled.ensures
+    ∙ ap (λ (l : LoanState). record l { pieces = change_piece c.args.ty.0 (all_rows (with_enabled_in c.args.rows.now c.args.on.now)) l.pieces }) c.self.view_is
+
+pub returns-clause-of : goal.returns-clause-of
+returns-clause-of c = λ b of.
+    subst (ArePiecesOf b) (sym c.store_enabled.ensures) (still_pieces b c.args.ty.0 (all_rows (with_enabled_in c.args.rows.now c.args.on.now)) (pieces_in c.self.inside.pieces) (all_rows_keeps (with_enabled_in c.args.rows.now c.args.on.now))
+    (subst (λ (l : LoanState). ArePiecesOf b l.pieces) (sym c.self.view_is) of))
