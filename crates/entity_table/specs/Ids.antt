@@ -1,16 +1,8 @@
--- How entities are named: what becomes of the name of an entity that ends, and how many more can be made.
+-- Which entity is given after some others.
 use Rattle.std.specs.Prelude.{ℕ, ◌+◌, ◌-◌, min, List, ◌∷◌, if◌then◌else◌, ◌==◌}
 use Rattle.std.proofs.Common.{zero, suc}
 use Rattle.ent_types.specs.declared.entity.Entity.{Entity}
-use Rattle.world_model.specs.Enter.{take_id}
-
--- the free list after an entity ended: its index with the version raised by 1 stands first; the last version is retired
-abbrev pub give_id : Entity → List Entity → List Entity
-give_id e free = if e.version == 4294967295 then free else (record { index = e.index; version = e.version + 1 } ∷ free)
-
--- how many entities can be made: at most 1,048,576 are alive, and at most 4,194,304 indexes are made
-abbrev pub room_of : ℕ → ℕ → ℕ → ℕ
-room_of alive free made = min (1048576 - alive) (free + (4194304 - made))
+use Rattle.world_model.specs.Ids.{take_id}
 
 -- the entity that is given after k others
 abbrev pub ahead_of : ℕ → List Entity → ℕ → ℕ → Entity

@@ -1,8 +1,7 @@
 -- The entity table: a finite map from the alive entities to their places, with what is given to new entities.
 use Rattle.std.specs.Prelude.{◌≡◌, ◌≢◌, ℕ, ◌-◌, ◌<◌, ◌≤◌, max, List, [], ◌∷◌, ◌++◌, length, Option, Some, None, is_some, IsSome, Result, Ok, Err, count_by, slice_index_or, slice_set, if◌then◌else◌, ◌==◌, nat_lt}
 use Rattle.ent_types.specs.declared.entity.Entity.{Entity}
-use Rattle.world_model.specs.Enter.{Given, take_id}
-use Rattle.entity_table.specs.Ids.{give_id, room_of}
+use Rattle.world_model.specs.Ids.{Given, take_id, give_id, room_of}
 use Rattle.entity_table.specs.declared.table.Place.{Place}
 use Rattle.entity_table.specs.declared.fault.TableFault.{TableFault}
 use Rattle.entity_table.specs.declared.fault.TableFault.TheVariants.{Full, Memory}

@@ -9,7 +9,7 @@ use Rattle.ent_types.specs.declared.entity.TypeId.{TypeId}
 use Rattle.ent_types.specs.declared.value.Value.{Value}
 use Rattle.ent_types.specs.declared.value.Value.TheVariants.{Int, Ref}
 use Rattle.ent_types.specs.Fitting.{null_entity}
-use Rattle.world_model.specs.Enter.{same_entity}
+use Rattle.world_model.specs.Part.{same_entity}
 use Rattle.expr_trees.specs.declared.tree.Expr.{Expr, fold-Expr}
 use Rattle.expr_trees.specs.declared.tree.Expr.TheOpen.{Expr-F}
 use Rattle.expr_trees.specs.declared.tree.RefExpr.{RefExpr}

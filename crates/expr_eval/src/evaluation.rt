@@ -77,7 +77,7 @@ pub fn eval_ref<R: RowReader>(e: &RefExpr, reader: &R) -> Entity
 #[tactic(auto, using(std::proofs::lemmas::Bool::and_parts))]
 pub fn eval<R: RowReader, L: Lookup>(e: &Expr, reader: &R, lookup: &L) -> i64
     requires { reads (R.has_field reader.now) (L.can_read lookup.now) e.now ≡ true }
-    ensures { result ≡ value (R.own_row reader.now) (others_of (L.rows lookup.now)) e.now }
+    ensures { result ≡ value (R.own_row reader.now) (others_of (L.found lookup.now)) e.now }
 {
     match e {
         Expr::Number(z) => *z,

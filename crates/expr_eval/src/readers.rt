@@ -1,8 +1,9 @@
 //! What an expression reads: its own row, and other rows.
-ghost use Rattle.std.specs.Prelude.{◌≡◌, ℕ, Bool, true, List};
+ghost use Rattle.std.specs.Prelude.{◌≡◌, ℕ, Bool, true, Option};
 ghost use Rattle.ent_types.specs.declared.entity.TypeId.{TypeId};
 ghost use Rattle.ent_types.specs.declared.entity.Entity.{Entity};
-ghost use Rattle.expr_eval.specs.Rows.{SeenRow, others_of};
+ghost use Rattle.world_model.specs.Found.{Found};
+ghost use Rattle.expr_eval.specs.Rows.{others_of};
 ghost use Rattle.expr_eval.specs.Values.{OwnRow};
 
 use ent_types::{Entity, TypeId, Value};
@@ -47,8 +48,8 @@ pub trait RowReader {
 
 /// Other rows, by their entities, as far as some types of theirs can be read (this project's own).
 pub trait Lookup {
-    /// The rows, each with its shared values.
-    ghost rows: { Self → List SeenRow };
+    /// The row of an entity, with where it belongs.
+    ghost found: { Self → Entity → Option Found };
 
     /// The type can be read.
     ghost can_read: { Self → TypeId → Bool };
@@ -57,13 +58,13 @@ pub trait Lookup {
     /// the type lacks the field.
     fn value(&self, e: Entity, ty: TypeId, field: u8) -> Option<Value>
         requires { can_read self.now ty ≡ true }
-        ensures { result ≡ (others_of (rows self.now)).value e ty field };
+        ensures { result ≡ (others_of (found self.now)).value e ty field };
 
     /// Says whether the entity is alive and has the type, as its own or as a shared one.
     fn has(&self, e: Entity, ty: TypeId) -> bool
-        ensures { result ≡ (others_of (rows self.now)).has e ty };
+        ensures { result ≡ (others_of (found self.now)).has e ty };
 
     /// Says whether the entity is alive, dying or not.
     fn alive(&self, e: Entity) -> bool
-        ensures { result ≡ (others_of (rows self.now)).alive e };
+        ensures { result ≡ (others_of (found self.now)).alive e };
 }

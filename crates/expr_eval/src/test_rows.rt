@@ -1,5 +1,6 @@
 //! An own row and two other rows, for the tests.
-ghost use Rattle.std.specs.Prelude.{◌≡◌, ℕ, Bool, true, false, not, List, [], ◌∷◌, if◌then◌else◌, pos, ◌==◌, nat_lt};
+ghost use Rattle.std.specs.Prelude.{◌≡◌, ℕ, Bool, true, false, not, List, [], ◌∷◌, if◌then◌else◌, pos, ◌==◌, nat_lt, find};
+ghost use Rattle.world_model.specs.Part.{same_entity};
 ghost use Rattle.ent_types.specs.declared.value.Value.TheVariants.{Int, Ref};
 
 use crate::{Lookup, RowReader};
@@ -78,8 +79,9 @@ pub(crate) const DYING: Entity = Entity {
 pub(crate) struct OtherRows;
 
 impl Lookup for OtherRows {
-    ghost rows = { λ _.
+    ghost found = { λ _ e. find (λ x. same_entity e x.row.entity) (
         (record {
+          home = record { types = 3 ∷ 5 ∷ 8 ∷ []; shared = (record { type_id = 8; values = Int (pos 6) ∷ [] }) ∷ [] };
           row = record {
             entity = record { index = 1; version = 1 };
             cells = (record { type_id = 3; values = []; off = false })
@@ -87,17 +89,16 @@ impl Lookup for OtherRows {
                 ∷ [];
             dying = false;
           };
-          shared = (record { type_id = 8; values = Int (pos 6) ∷ [] }) ∷ [];
         })
         ∷ (record {
+          home = record { types = 6 ∷ []; shared = [] };
           row = record {
             entity = record { index = 2; version = 3 };
             cells = (record { type_id = 6; values = Int (pos 9) ∷ []; off = false }) ∷ [];
             dying = true;
           };
-          shared = [];
         })
-        ∷ [] };
+        ∷ []) };
 
     ghost can_read = { λ _ ty. not (ty.0 == 4) };
 

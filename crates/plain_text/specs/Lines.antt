@@ -8,7 +8,8 @@ use Rattle.ent_types.specs.declared.value.Value.{Value}
 use Rattle.ent_types.specs.declared.value.Value.TheVariants.{Int, Ref}
 use Rattle.ent_types.specs.Registries.{type_at}
 use Rattle.world_model.specs.Row.{Row, Cell}
-use Rattle.world_model.specs.World.{World, Block, alive_count}
+use Rattle.world_model.specs.World.{Block}
+use Rattle.plain_world.specs.World.{World, alive_count}
 
 -- `index:version`
 unfoldable pub entity_text : Entity → List ℕ

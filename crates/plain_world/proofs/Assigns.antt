@@ -5,7 +5,8 @@ use Rattle.std.proofs.lemmas.List.{map-set}
 use Rattle.ent_types.specs.declared.type_info.TypeInfo.{TypeInfo}
 use Rattle.ent_types.specs.declared.value.Value.{Value}
 use Rattle.expr_trees.specs.declared.tree.Assign.{Assign}
-use Rattle.world_model.specs.Row.{Cell, map_cell}
+use Rattle.world_model.specs.Row.{Cell}
+use Rattle.plain_world.specs.Fields.{map_cell}
 use Rattle.plain_world.specs.Seen.{row_met}
 use Rattle.plain_world.specs.Run.{Pass, assigned, kept, kind_at, map_from}
 use Rattle.plain_world.specs.Plain.{Part, cell_at, row_at, rows_from, value_at, with_column, AreLong, IsEven, mark_in}

@@ -6,8 +6,12 @@ use Rattle.std.proofs.lemmas.Option.{slice_get-map}
 use Rattle.std.proofs.lemmas.Bool.Decides.{eqb_tells}
 use Rattle.ent_types.specs.declared.entity.Entity.{Entity}
 use Rattle.ent_types.specs.declared.entity.TypeId.{TypeId}
+use Rattle.ent_types.specs.declared.value.Value.{Value}
 use Rattle.ent_types.specs.TypeSets.{has_type}
-use Rattle.expr_eval.specs.Rows.{row_of, values_of, values_seen, cell_values}
+use Rattle.world_model.specs.Row.{Cell}
+use Rattle.world_model.specs.Found.{values_of}
+use Rattle.expr_eval.specs.Rows.{values_seen}
+use Rattle.plain_world.specs.Seen.{row_of}
 use Rattle.plain_world.specs.declared.block.PlainBlock.{PlainBlock}
 use Rattle.plain_world.specs.declared.block.Place.{Place}
 use Rattle.plain_world.specs.Plain.{Part, cell_at, value_at, column_at, types_in}
@@ -39,6 +43,9 @@ is_there blocks index (Some p) = refl
 
 -- ---- what the row has of a type
 
+abbrev cell_values : ℕ → List Cell → Option (List Value)
+cell_values t cells = option_map (λ c. c.values) (find (λ c. nat_eq c.type_id t) cells)
+
 values_in-cells : (t k : ℕ) (parts : List Part) (field : ℕ)
     → option_and_then (λ vs. slice_get vs field) (option_or (cell_values t (map (cell_at k) parts)) None) ≡ option_map (value_at k) (column_at t field parts)
 values_in-cells t k [] field = refl
@@ -64,27 +71,27 @@ has-cells t k (p ∷ ps) = by (nat_eq p.type_id t) (has-cells t k ps)
 module _ (blocks : List PlainBlock) (places : List Place) (e : Entity) (ty : TypeId) where
   -- none, where the entity isn't alive
   pub dead_value : (field : ℕ) → place_of places e ≡ None
-      → option_and_then (λ vs. slice_get vs field) (values_seen (placed_rows blocks 0 places) e ty) ≡ None
+      → option_and_then (λ vs. slice_get vs field) (values_seen (row_of (placed_rows blocks 0 places)) e ty) ≡ None
   dead_value field none =
-      ap (λ o. option_and_then (λ vs. slice_get vs field) (option_and_then (values_of ty) o))
+      ap (λ o. option_and_then (λ vs. slice_get vs field) (option_and_then (values_of ty.0) o))
       (row_by_place blocks places e ∙ ap (option_map (there blocks e.index)) none)
 
-  pub dead_has : place_of places e ≡ None → is_some (values_seen (placed_rows blocks 0 places) e ty) ≡ false
+  pub dead_has : place_of places e ≡ None → is_some (values_seen (row_of (placed_rows blocks 0 places)) e ty) ≡ false
   dead_has none =
-      ap (λ o. is_some (option_and_then (values_of ty) o)) (row_by_place blocks places e ∙ ap (option_map (there blocks e.index)) none)
+      ap (λ o. is_some (option_and_then (values_of ty.0) o)) (row_by_place blocks places e ∙ ap (option_map (there blocks e.index)) none)
 
   -- or that of its row
   pub found_value : (field : ℕ) (p : Place) → place_of places e ≡ Some p
-      → option_and_then (λ vs. slice_get vs field) (values_seen (placed_rows blocks 0 places) e ty)
+      → option_and_then (λ vs. slice_get vs field) (values_seen (row_of (placed_rows blocks 0 places)) e ty)
       ≡ option_map (value_at p.row) (column_at ty.0 field (parts_there (slice_get blocks p.block)))
   found_value field p some =
-      ap (λ o. option_and_then (λ vs. slice_get vs field) (option_and_then (values_of ty) o))
+      ap (λ o. option_and_then (λ vs. slice_get vs field) (option_and_then (values_of ty.0) o))
       (row_by_place blocks places e ∙ ap (option_map (there blocks e.index)) some)
       ∙ values_in-cells ty.0 p.row (parts_there (slice_get blocks p.block)) field
 
   pub found_has : (p : Place) → place_of places e ≡ Some p
-      → is_some (values_seen (placed_rows blocks 0 places) e ty) ≡ has_type (types_in (parts_there (slice_get blocks p.block))) ty.0
+      → is_some (values_seen (row_of (placed_rows blocks 0 places)) e ty) ≡ has_type (types_in (parts_there (slice_get blocks p.block))) ty.0
   found_has p some =
-      ap (λ o. is_some (option_and_then (values_of ty) o))
+      ap (λ o. is_some (option_and_then (values_of ty.0) o))
       (row_by_place blocks places e ∙ ap (option_map (there blocks e.index)) some)
       ∙ has-cells ty.0 p.row (parts_there (slice_get blocks p.block))

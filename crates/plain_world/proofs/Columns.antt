@@ -10,7 +10,7 @@ use Rattle.std.proofs.lemmas.Option.{slice_get-map}
 use Rattle.ent_types.specs.TypeSets.{has_type}
 use Rattle.ent_types.specs.declared.value.Value.{Value}
 use Rattle.ent_types.specs.declared.value.Value.TheVariants.{Int}
-use Rattle.world_model.specs.Row.{field_at, values_at}
+use Rattle.plain_world.specs.Fields.{field_at, values_at}
 use Rattle.plain_world.specs.declared.block.NewColumn.{NewColumn}
 use Rattle.plain_world.specs.Seen.{is_on}
 use Rattle.plain_world.specs.Plain.{Part, cell_at, row_at, value_at, column_at, types_in, with_column}

@@ -6,7 +6,7 @@ use Rattle.ent_types.specs.declared.point.Point.TheVariants.{EndSimulation, Begi
 use Rattle.ent_types.specs.declared.type_info.TypeInfo.{TypeInfo}
 use Rattle.scenario_record.specs.declared.record.Scenario.{Scenario}
 use Rattle.scenario_record.specs.declared.record.SystemEntry.{SystemEntry}
-use Rattle.world_model.specs.World.{World}
+use Rattle.plain_world.specs.World.{World}
 use Rattle.plain_world.specs.Run.{run, play, stepped, raised, ran, framed}
 
 fold-run : (registry : List TypeInfo) (frame : ℕ) (w : World) (systems : List SystemEntry)

@@ -6,19 +6,20 @@ use Rattle.std.proofs.lemmas.Bool.Decides.{eqb_tells}
 use Rattle.std.proofs.lemmas.List.Folds.{find-append}
 use Rattle.ent_types.specs.declared.entity.Entity.{Entity}
 use Rattle.world_model.specs.Row.{Row}
-use Rattle.world_model.specs.Enter.{same_entity}
-use Rattle.expr_eval.specs.Rows.{SeenRow, others_of, row_of, values_of}
+use Rattle.world_model.specs.Part.{same_entity}
+use Rattle.world_model.specs.Found.{Found, values_of}
+use Rattle.expr_eval.specs.Rows.{others_of}
 use Rattle.plain_world.specs.declared.block.PlainBlock.{PlainBlock}
 use Rattle.plain_world.specs.declared.block.Place.{Place}
-use Rattle.plain_world.specs.Seen.{seen_rows}
+use Rattle.plain_world.specs.Seen.{seen_rows, row_of}
 use Rattle.plain_world.specs.Plain.{Part, parts_of, row_at, rows_from, block_of}
 use Rattle.plain_world.specs.Placed.{first_place, entities_in, TellPlaces, row_there, placed_rows}
 use Rattle.plain_world.proofs.Found.{rows_in, row_found}
 
-abbrev pub alone : Row → SeenRow
-alone r = record { row = r; shared = [] }
+abbrev pub alone : Row → Found
+alone r = record { home = record { types = []; shared = [] }; row = r }
 
-abbrev is_it : Entity → SeenRow → Bool
+abbrev is_it : Entity → Found → Bool
 is_it e seen = same_entity seen.row.entity e
 
 and-true : (b : Bool) → (b && true) ≡ b
@@ -57,10 +58,10 @@ abbrev first_of : ℕ → Entity
 first_of i = record { index = i; version = 1 }
 
 module _ (blocks : List PlainBlock) where
-  abbrev pub there : ℕ → Place → SeenRow
+  abbrev pub there : ℕ → Place → Found
   there i p = alone (row_there blocks i p)
 
-  by_test : (b : Bool) (x : SeenRow) (o : Option SeenRow) (t : Bool) → t ≡ b → cond (t && true) (Some x) o ≡ cond b (Some x) o
+  by_test : (b : Bool) (x : Found) (o : Option Found) (t : Bool) → t ≡ b → cond (t && true) (Some x) o ≡ cond b (Some x) o
   by_test true x o t e = rw e refl
   by_test false x o t e = rw e refl
 
@@ -80,7 +81,7 @@ module _ (blocks : List PlainBlock) where
 
   seen_all : (bs : List PlainBlock) → seen_rows (map block_of bs) ≡ rows_in alone bs
   seen_all [] = refl
-  seen_all (b ∷ bs) = ap (λ (l : List SeenRow). map alone (rows_from (parts_of b.parts.items) 0 b.entities.items) ++ l) (seen_all bs)
+  seen_all (b ∷ bs) = ap (λ (l : List Found). map alone (rows_from (parts_of b.parts.items) 0 b.entities.items) ++ l) (seen_all bs)
 
   all_found : (i : ℕ) → row_of (seen_rows (map block_of blocks)) (first_of i) ≡ option_map (there i) (first_place i 0 (entities_in blocks))
   all_found i = ap (find (is_it (first_of i))) (seen_all blocks) ∙ row_found alone (is_it (first_of i)) i (λ parts k e. and-true (nat_eq e i)) blocks
@@ -102,9 +103,9 @@ module _ (blocks : List PlainBlock) where
       | inr apart ↦ dead_placed e apart.0 blocks 0 places ∙ sym (dead_seen e apart.0 blocks)
     ]
 
-    pub same_others : others_of (placed_rows blocks 0 places) ≡ others_of (seen_rows (map block_of blocks))
+    pub same_others : others_of (row_of (placed_rows blocks 0 places)) ≡ others_of (row_of (seen_rows (map block_of blocks)))
     same_others = λ j. record {
-      value = λ e ty i. option_and_then (λ values. slice_get values i) (option_and_then (values_of ty) (same_rows e j));
-      has = λ e ty. is_some (option_and_then (values_of ty) (same_rows e j));
+      value = λ e ty i. option_and_then (λ values. slice_get values i) (option_and_then (values_of ty.0) (same_rows e j));
+      has = λ e ty. is_some (option_and_then (values_of ty.0) (same_rows e j));
       alive = λ e. is_some (same_rows e j);
     }

@@ -5,10 +5,11 @@ use Rattle.std.proofs.Math.ListN.{set}
 use Rattle.std.proofs.lemmas.Bool.{le-ltb, lt-ltb, and_parts}
 use Rattle.world_model.specs.Row.{Row, Cell}
 use Rattle.world_model.specs.World.{Block, Home}
-use Rattle.world_model.specs.Enter.{enter, entered, new_block, same_home, same_shared}
+use Rattle.world_model.specs.Part.{same_part}
+use Rattle.world_model.specs.Enter.{enter, entered, new_block, same_home, has_room, room_place}
 use Rattle.plain_world.specs.Run.{home_of}
 use Rattle.plain_world.specs.Plain.{Part, rows_from, types_in, block_from}
-use Rattle.plain_world.specs.NewRows.{types_of, has_room, room_place}
+use Rattle.plain_world.specs.NewRows.{types_of}
 
 pub length-rows : (ps : List Part) (place : ℕ) (es : List ℕ) → length (rows_from ps place es) ≡ length es
 length-rows ps place [] = refl
@@ -74,6 +75,7 @@ module _ (most : ℕ) (home : Home) where
     -- a row enters the first block that has room
     pub enters_at : (bs : List Block) (i : ℕ) (b : Block) → i ≡ room_place most home bs → i < length bs → b ≡ get_or bs i b
         → set bs i (entered now row b) ≡ enter most now home row bs
+    unfolding enter
     enters_at [] i b place within is = absurd (omega arith)
     enters_at (d ∷ ds) zero b place within is = by (has_room most home d) place
       where
@@ -89,6 +91,7 @@ module _ (most : ℕ) (home : Home) where
 
     -- or a new last one
     pub enters_last : (bs : List Block) (i : ℕ) → i ≡ room_place most home bs → length bs ≤ i → bs ++ new_block now home row ∷ [] ≡ enter most now home row bs
+    unfolding enter
     enters_last [] i place long = refl
     enters_last (d ∷ ds) i place long = by (has_room most home d) place (λ e. enters_last ds (room_place most home ds) refl e)
       where
@@ -99,6 +102,7 @@ module _ (most : ℕ) (home : Home) where
 
     -- the blocks before it still have no room
     pub room_stays : (bs : List Block) → room_place most home bs ≤ room_place most home (enter most now home row bs)
+    unfolding enter
     room_stays [] = omega arith
     room_stays (d ∷ ds) = by (has_room most home d) refl (room_stays ds)
       where
@@ -132,4 +136,4 @@ module _ (most : ℕ) (cells : List Cell) (ps : List Part) (es : List ℕ) (orde
 pub same_types : (most : ℕ) (cells : List Cell) (b : Block) → has_room most (home_of cells) b ≡ true → pointwise nat_eq (types_of cells) b.home.types ≡ true
 same_types most cells b room =
     let same = and_parts (same_home (home_of cells) b.home) (nat_lt (length b.rows) most) room in
-    (and_parts (pointwise nat_eq (types_of cells) b.home.types) (pointwise same_shared [] b.home.shared) same.0).0
+    (and_parts (pointwise nat_eq (types_of cells) b.home.types) (pointwise same_part [] b.home.shared) same.0).0

@@ -1,3 +1,5 @@
+pub mod World
+pub mod Fields
 pub mod Seen
 pub mod Run
 pub mod Plain

@@ -7,8 +7,6 @@ use Rattle.ent_types.specs.Fitting.{default_value}
 use Rattle.ent_types.specs.Registries.{type_at}
 use Rattle.expr_trees.specs.declared.tree.ValueExpr.{ValueExpr}
 use Rattle.world_model.specs.Row.{Row, Cell}
-use Rattle.world_model.specs.World.{Block, Home}
-use Rattle.world_model.specs.Enter.{same_home}
 use Rattle.plain_world.specs.declared.block.PlainBlock.{PlainBlock}
 use Rattle.plain_world.specs.declared.cells.NewCell.{NewCell}
 use Rattle.plain_world.specs.Plain.{Part, parts_of}
@@ -74,15 +72,6 @@ abbrev pub empty_part : List TypeInfo → ℕ → Part
 empty_part registry t = record { type_id = t; mark = 0; columns = map (λ f. []) (type_at registry t).fields }
 
 -- ---- blocks
-
--- whether a row of this home can enter a block that holds so many rows at most
-abbrev pub has_room : ℕ → Home → Block → Bool
-has_room most home b = same_home home b.home && nat_lt (length b.rows) most
-
--- the place of the first block that has room; past the end where there is none
-abbrev pub room_place : ℕ → Home → List Block → ℕ
-room_place most home [] = zero
-room_place most home (b ∷ bs) = if has_room most home b then zero else suc (room_place most home bs)
 
 -- each type has a column for each of its fields
 abbrev pub IsWide : List TypeInfo → List Part → Type 0

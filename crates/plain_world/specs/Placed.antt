@@ -3,7 +3,7 @@ use Rattle.std.specs.Prelude.{ℕ, zero, suc, ◌≡◌, ◌≤◌, ◌+◌, ◌
 use Rattle.std.specs.Option.{option_or}
 use Rattle.ent_types.specs.declared.entity.Entity.{Entity}
 use Rattle.world_model.specs.Row.{Row}
-use Rattle.expr_eval.specs.Rows.{SeenRow}
+use Rattle.world_model.specs.Found.{Found}
 use Rattle.plain_world.specs.declared.block.PlainBlock.{PlainBlock}
 use Rattle.plain_world.specs.declared.block.Place.{Place}
 use Rattle.plain_world.specs.declared.world.PlainWorld.{PlainWorld}
@@ -64,9 +64,9 @@ abbrev pub row_there : List PlainBlock → ℕ → Place → Row
 row_there blocks index place = row_at (parts_there (slice_get blocks place.block)) place.row index
 
 -- the rows of the indexes from this one on
-abbrev pub placed_rows : List PlainBlock → ℕ → List Place → List SeenRow
+abbrev pub placed_rows : List PlainBlock → ℕ → List Place → List Found
 placed_rows blocks index [] = []
-placed_rows blocks index (p ∷ ps) = (record { row = row_there blocks index p; shared = [] }) ∷ placed_rows blocks (index + 1) ps
+placed_rows blocks index (p ∷ ps) = (record { home = record { types = []; shared = [] }; row = row_there blocks index p }) ∷ placed_rows blocks (index + 1) ps
 
 -- the place of an entity; none where it isn't alive
 abbrev pub place_of : List Place → Entity → Option Place

@@ -3,7 +3,8 @@ use Rattle.std.specs.Prelude.{ℕ, pos, ◌+◌, ◌≡◌, false, if◌then◌e
 use Rattle.ent_types.specs.declared.value.Value.{Value}
 use Rattle.ent_types.specs.declared.value.Value.TheVariants.{Int}
 use Rattle.world_model.specs.Row.{Row, Cell}
-use Rattle.world_model.specs.World.{World, Block, Mark}
+use Rattle.world_model.specs.World.{Block, Mark}
+use Rattle.plain_world.specs.World.{World}
 use Rattle.plain_world.specs.declared.block.TypeColumns.{TypeColumns}
 use Rattle.plain_world.specs.declared.block.PlainBlock.{PlainBlock}
 use Rattle.plain_world.specs.declared.world.PlainWorld.{PlainWorld}

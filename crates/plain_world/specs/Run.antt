@@ -12,9 +12,12 @@ use Rattle.ent_types.specs.declared.value.Value.TheVariants.{Int, Ref}
 use Rattle.ent_types.specs.Fitting.{fit, default_value}
 use Rattle.ent_types.specs.Registries.{type_at}
 use Rattle.ent_types.specs.TypeSets.{has_type, is_subset_of}
-use Rattle.world_model.specs.Row.{Row, Cell, with_field}
-use Rattle.world_model.specs.World.{World, Block, Home, Mark, empty_world, capacity}
-use Rattle.world_model.specs.Enter.{take_id, enter}
+use Rattle.world_model.specs.Row.{Row, Cell}
+use Rattle.world_model.specs.World.{Block, Home, Mark, capacity}
+use Rattle.world_model.specs.Ids.{take_id}
+use Rattle.world_model.specs.Enter.{enter}
+use Rattle.plain_world.specs.World.{World, empty_world}
+use Rattle.plain_world.specs.Fields.{with_field}
 use Rattle.expr_eval.specs.Values.{OwnRow, OtherRows, value, value_ref}
 use Rattle.expr_trees.specs.declared.tree.ValueExpr.{ValueExpr}
 use Rattle.expr_trees.specs.declared.tree.ValueExpr.TheVariants.{Int as IntExpr, Ref as RefExpr}

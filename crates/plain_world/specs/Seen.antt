@@ -1,12 +1,17 @@
 -- What an expression sees: its own row and where that row is met, and the other rows of the world.
-use Rattle.std.specs.Prelude.{ℕ, pos, Bool, false, not, ◌&&◌, nat_eq, List, [], map}
+use Rattle.std.specs.Prelude.{ℕ, pos, Bool, false, not, ◌&&◌, nat_eq, List, [], map, find, Option, None}
 use Rattle.std.specs.List.{list_any, flat_map}
 use Rattle.ent_types.specs.declared.value.Value.TheVariants.{Int}
 use Rattle.ent_types.specs.Fitting.{null_entity}
-use Rattle.world_model.specs.Row.{Row, Cell, field_at}
-use Rattle.world_model.specs.World.{World, Block}
+use Rattle.ent_types.specs.declared.entity.Entity.{Entity}
+use Rattle.world_model.specs.Part.{same_entity}
+use Rattle.world_model.specs.Row.{Row, Cell}
+use Rattle.world_model.specs.World.{Block}
+use Rattle.world_model.specs.Found.{Found}
+use Rattle.plain_world.specs.World.{World}
+use Rattle.plain_world.specs.Fields.{field_at}
 use Rattle.expr_eval.specs.Values.{OwnRow, OtherRows}
-use Rattle.expr_eval.specs.Rows.{SeenRow, others_of}
+use Rattle.expr_eval.specs.Rows.{others_of}
 
 -- where a system meets a row: in which of the visited blocks, at which place there, and in which frame
 pub record Spot : Type 0 where
@@ -44,12 +49,16 @@ row_of_spawn n = record {
 
 -- what a row that isn't made yet sees of other rows: there is none
 abbrev pub no_others : OtherRows
-no_others = others_of []
+no_others = others_of (λ e. None)
 
--- all rows, block after block, each with the shared values of its block
-abbrev pub seen_rows : List Block → List SeenRow
-seen_rows blocks = flat_map (λ b. map (λ r. record { row = r; shared = b.home.shared }) b.rows) blocks
+-- all rows, block after block, each with the shared values of its block; of the types no expression asks
+abbrev pub seen_rows : List Block → List Found
+seen_rows blocks = flat_map (λ b. map (λ r. record { home = record { types = []; shared = b.home.shared }; row = r }) b.rows) blocks
+
+-- the row of an entity; none where the entity isn't alive
+abbrev pub row_of : List Found → Entity → Option Found
+row_of rows e = find (λ seen. same_entity seen.row.entity e) rows
 
 -- the other rows of a world
 abbrev pub others_in : World → OtherRows
-others_in w = others_of (seen_rows w.blocks)
+others_in w = others_of (row_of (seen_rows w.blocks))

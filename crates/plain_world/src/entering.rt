@@ -1,11 +1,11 @@
 //! How a new row enters the world.
 ghost use Rattle.std.specs.Prelude.{◌≡◌, ◌+◌, ◌≤◌, ◌<◌, ◌^◌, [], ◌∷◌, map, length, slice_index_or, IfOk, OnOk};
 ghost use Rattle.world_model.specs.World.{capacity};
-ghost use Rattle.world_model.specs.Enter.{enter, new_block};
+ghost use Rattle.world_model.specs.Enter.{enter, new_block, room_place};
 ghost use Rattle.plain_world.specs.Run.{home_of, created};
 ghost use Rattle.plain_world.specs.Plain.{part_of, parts_of, block_of, world_of, IsEvenBlock, AreEven};
 ghost use Rattle.plain_world.specs.Placed.{IsPlaced, entities_in, next_place, with_entity};
-ghost use Rattle.plain_world.specs.NewRows.{cells_in, types_of, new_row, empty_part, room_place, AreFull, IsWideBlock, AreWide};
+ghost use Rattle.plain_world.specs.NewRows.{cells_in, types_of, new_row, empty_part, AreFull, IsWideBlock, AreWide};
 
 use crate::block::{Place, PlainBlock, TypeColumns};
 use crate::cells::{NewCell, fields_of};

@@ -42,7 +42,7 @@ pub fn keep<R: RowReader, L: Lookup>(
 ) -> Value
     requires fields { (ty : TypeId) → (i : ℕ) → R.has_field reader.now ty i ≡ true }
     requires types { (ty : TypeId) → L.can_read lookup.now ty ≡ true }
-    ensures { result ≡ kept kind (R.own_row reader.now) (others_of (L.rows lookup.now)) value.now }
+    ensures { result ≡ kept kind (R.own_row reader.now) (others_of (L.found lookup.now)) value.now }
 {
     match value {
         ValueExpr::Int(expr) => fit_int(kind, eval(expr, reader, lookup)),

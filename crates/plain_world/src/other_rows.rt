@@ -1,5 +1,6 @@
 //! The other rows that expressions look up: all rows of the world, or none.
-ghost use Rattle.std.specs.Prelude.{◌≡◌, true, [], slice_get};
+ghost use Rattle.std.specs.Prelude.{◌≡◌, true, None, slice_get};
+ghost use Rattle.plain_world.specs.Seen.{row_of};
 ghost use Rattle.plain_world.specs.Plain.{parts_of};
 ghost use Rattle.plain_world.specs.Placed.{placed_rows, place_of, parts_there};
 
@@ -44,7 +45,7 @@ impl WorldRows<'_> {
 }
 
 impl Lookup for WorldRows<'_> {
-    ghost rows = { λ w. placed_rows w.blocks.now 0 w.places.now };
+    ghost found = { λ w. row_of (placed_rows w.blocks.now 0 w.places.now) };
 
     ghost can_read = { λ _ ty. true };
 
@@ -72,7 +73,7 @@ impl Lookup for WorldRows<'_> {
 pub struct NoRows;
 
 impl Lookup for NoRows {
-    ghost rows = { λ _. [] };
+    ghost found = { λ _ _. None };
 
     ghost can_read = { λ _ ty. true };
 

@@ -7,7 +7,8 @@ ghost use Rattle.ent_types.specs.Types.{column_size};
 ghost use Rattle.world_model.specs.World.{capacity};
 ghost use Rattle.plain_world.specs.Run.{home_of};
 ghost use Rattle.plain_world.specs.Plain.{parts_of, types_in, block_of};
-ghost use Rattle.plain_world.specs.NewRows.{cells_in, types_of, has_room, room_place};
+ghost use Rattle.world_model.specs.Enter.{has_room, room_place};
+ghost use Rattle.plain_world.specs.NewRows.{cells_in, types_of};
 
 use crate::block::{PlainBlock, TypeColumns};
 use crate::cells::NewCell;

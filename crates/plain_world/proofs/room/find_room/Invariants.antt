@@ -1,7 +1,8 @@
 use Rattle.std.proofs.Common.{◌≤◌, map}
 use Rattle.plain_world.specs.Plain.{block_of}
 use Rattle.plain_world.specs.Run.{home_of}
-use Rattle.plain_world.specs.NewRows.{cells_in, room_place}
+use Rattle.world_model.specs.Enter.{room_place}
+use Rattle.plain_world.specs.NewRows.{cells_in}
 use Rattle.plain_world.proofs.room.find_room.Given as goal
 
 -- no block so far has room

@@ -3,7 +3,8 @@ use Rattle.std.specs.List.{fold, range_with_len}
 use Rattle.plain_world.specs.Plain.{block_of, world_of, AreEven}
 use Rattle.plain_world.specs.Placed.{IsPlaced}
 use Rattle.plain_world.specs.Run.{spawned_row, cells_of, home_of}
-use Rattle.plain_world.specs.NewRows.{room_place, AreWide}
+use Rattle.world_model.specs.Enter.{room_place}
+use Rattle.plain_world.specs.NewRows.{AreWide}
 use Rattle.plain_world.proofs.spawning.create_all.Given as goal
 
 -- the rows so far are made, and no block before `from` has room

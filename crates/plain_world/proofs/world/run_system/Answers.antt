@@ -1,6 +1,7 @@
 use Rattle.std.proofs.Common.{◌+◌, List, ap, ◌∙◌, arith}
 use Rattle.std.proofs.lemmas.List.{length-map}
-use Rattle.world_model.specs.World.{World, Block}
+use Rattle.world_model.specs.World.{Block}
+use Rattle.plain_world.specs.World.{World}
 use Rattle.plain_world.specs.Plain.{world_of}
 use Rattle.plain_world.specs.Placed.{entities_in}
 use Rattle.plain_world.proofs.Placings.{few_blocks, rows_within}

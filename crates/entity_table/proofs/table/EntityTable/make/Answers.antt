@@ -2,7 +2,7 @@ use Rattle.std.proofs.Common.{◌≡◌, ℕ, ◌-◌, ◌<◌, List, [], ◌∷
 use Rattle.std.proofs.lemmas.Bool.{cond-true, lt-ltb}
 use Rattle.std.proofs.lemmas.List.{length-set, length-append, length-map, get_or-map, get_or-set_same, get_or-set_other}
 use Rattle.ent_types.specs.declared.entity.Entity.{Entity}
-use Rattle.world_model.specs.Enter.{take_id}
+use Rattle.world_model.specs.Ids.{take_id}
 use Rattle.entity_table.specs.declared.table.Slot.{Slot}
 use Rattle.entity_table.specs.declared.table.EntityTable.TheInside.{Inside}
 use Rattle.entity_table.specs.Table.{Holder, with_made, place_at}
