@@ -1,4 +1,5 @@
 pub mod DistinctNames
+pub mod Elements
 pub mod LawfulTypes
 pub mod Lookups
 pub mod NameText

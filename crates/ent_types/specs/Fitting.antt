@@ -1,5 +1,6 @@
 -- Which values a field or a type may hold, and what a field keeps of a value.
-use Rattle.std.specs.Prelude.{ℕ, ℤ, pos, negsuc, List, [], ◌∷◌, Bool, true, false, ◌&&◌, int_le}
+use Rattle.std.specs.Prelude.{ℕ, ◌≡◌, ◌≤◌, zero, suc, ℤ, pos, negsuc, List, [], ◌∷◌, Bool, true, false, ◌&&◌, int_le, length, take, drop, flat_map, if◌then◌else◌}
+use Rattle.std.specs.List.{list_all}
 use Rattle.std.specs.Int.{int_wrap, w32, w64}
 use Rattle.ent_types.specs.declared.entity.Entity.{Entity}
 use Rattle.ent_types.specs.declared.value.Value.{Value}
@@ -8,6 +9,8 @@ use Rattle.ent_types.specs.declared.kinds.FieldKind.{FieldKind}
 use Rattle.ent_types.specs.declared.kinds.FieldKind.TheVariants.{I32, I64, Ref as RefKind}
 use Rattle.ent_types.specs.declared.type_info.FieldInfo.{FieldInfo}
 use Rattle.ent_types.specs.declared.type_info.TypeInfo.{TypeInfo}
+use Rattle.ent_types.specs.declared.limits.TheConstants.{MOST_ELEMENTS}
+use Rattle.ent_types.specs.Types.{is_buffer}
 
 -- the entity that is never alive
 abbrev pub null_entity : Entity
@@ -32,9 +35,25 @@ fits_fields [] (v ∷ vs) = false
 fits_fields (f ∷ fs) [] = false
 fits_fields (f ∷ fs) (v ∷ vs) = fits_field f.kind v && fits_fields fs vs
 
--- whether these are values of the type: one for each field, of the field's kind and in its range
+-- whether these are the values of at most so many elements, one element after another
+unfoldable pub fits_elements : ℕ → List FieldInfo → List Value → Bool
+fits_elements most fields [] = true
+fits_elements zero fields (v ∷ vs) = false
+fits_elements (suc most) fields (v ∷ vs) =
+    fits_fields fields (take (length fields) (v ∷ vs)) && fits_elements most fields (drop (length fields) (v ∷ vs))
+
+-- Whether these are values of the type: one for each field, of the field's kind and in its range. Those of a buffer
+-- are the values of its elements.
 unfoldable pub fits_type : TypeInfo → List Value → Bool
-fits_type t values = fits_fields t.fields values
+fits_type t values =
+    if is_buffer t.kind then fits_elements MOST_ELEMENTS t.fields values else fits_fields t.fields values
+
+-- the same of a buffer, by the list of its elements
+pub record AreElements (most : ℕ) (fields : List FieldInfo) (values : List Value) : Type 0 where
+  pub elements : List (List Value)
+  pub few : length elements ≤ most
+  pub each : list_all (fits_fields fields) elements ≡ true
+  pub joined : flat_map (λ element. element) elements ≡ values
 
 -- the number that a field of this kind keeps of a number: its low bits, as a signed number
 abbrev pub fit_number : FieldKind → ℤ → ℤ

@@ -7,4 +7,6 @@ pub mod TypeWordsBack
 pub mod Versions
 pub mod Refusals
 pub mod Registries
+pub mod Skips
+pub mod TypeLookups
 pub mod Types

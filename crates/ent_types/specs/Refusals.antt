@@ -3,14 +3,15 @@ use Rattle.std.specs.Prelude.{ℕ, ◌≡◌, List, nat_lt, nat_le, length, Opti
 use Rattle.ent_types.specs.declared.type_info.TypeInfo.{TypeInfo}
 use Rattle.ent_types.specs.declared.registry.RegistryFault.{RegistryFault}
 use Rattle.ent_types.specs.declared.registry.RegistryFault.TheVariants.{TooWide, Duplicate, TooManyTypes, Memory}
+use Rattle.ent_types.specs.declared.limits.TheConstants.{MOST_FIELDS, MOST_TYPES}
 use Rattle.ent_types.specs.Registries.{type_named}
 
 -- the first ground on which a registry of these types refuses one more
 unfoldable pub refusal : List TypeInfo → TypeInfo → Option RegistryFault
 refusal types info =
-    if nat_lt 64 (length info.fields) then Some TooWide
+    if nat_lt MOST_FIELDS (length info.fields) then Some TooWide
     else if is_some (type_named types info.name) then Some Duplicate
-    else if nat_le 256 (length types) then Some TooManyTypes
+    else if nat_le MOST_TYPES (length types) then Some TooManyTypes
     else None
 
 -- this fault is the one that is due; want of memory is due only where nothing else is

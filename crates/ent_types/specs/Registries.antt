@@ -6,6 +6,8 @@ use Rattle.ent_types.specs.declared.kinds.FieldKind.TheVariants.{I64}
 use Rattle.ent_types.specs.declared.entity.TypeId.{TypeId}
 use Rattle.ent_types.specs.declared.type_info.FieldInfo.{FieldInfo}
 use Rattle.ent_types.specs.declared.type_info.TypeInfo.{TypeInfo}
+use Rattle.ent_types.specs.declared.limits.TheConstants.{MOST_FIELDS, MOST_TYPES}
+use Rattle.ent_types.specs.declared.entity.TheConstants.{BUILT_IN_TYPES}
 use Rattle.ent_types.specs.Types.{same_name, are_distinct, is_lawful_type}
 
 -- the number of the type with this name
@@ -43,11 +45,11 @@ type_names types = map (λ t. t.name) types
 
 -- well formed, and with no more fields than a registry takes
 abbrev pub is_admissible : TypeInfo → Bool
-is_admissible t = nat_le (length t.fields) 64 && is_lawful_type t
+is_admissible t = nat_le (length t.fields) MOST_FIELDS && is_lawful_type t
 
 -- what every registry holds
 pub record IsLawfulRegistry (types : List TypeInfo) : Type 0 where
-  pub built_in : take 3 types ≡ built_in_types
+  pub built_in : take BUILT_IN_TYPES types ≡ built_in_types
   pub admissible : list_all is_admissible types ≡ true
   pub distinct : are_distinct (type_names types) ≡ true
-  pub most : length types ≤ 256
+  pub most : length types ≤ MOST_TYPES

@@ -7,7 +7,7 @@ abbrev pub IsRisingFrom : ℕ → ℕ → List ℕ → Type 0
 IsRisingFrom low high [] = Unit {0}
 IsRisingFrom low high (x ∷ xs) = (low ≤ x) × (x < high) × IsRisingFrom (x + 1) high xs
 
--- the numbers rise strictly, and all are below `high`: what each set of types is at 256
+-- the numbers rise strictly, and all are below `high`: what each set of types is at MOST_TYPES
 abbrev pub IsRisingBelow : ℕ → List ℕ → Type 0
 IsRisingBelow high xs = IsRisingFrom 0 high xs
 

@@ -1,6 +1,7 @@
 -- how a set of types is kept: type t is the bit t of a number of 256 bits, cut into words of 64 bits, the lowest first
 use Rattle.std.specs.Prelude.{◌≡◌, ℕ, zero, suc, ◌+◌, ◌*◌, ◌/◌, ◌%◌, ◌^◌, ◌<◌, ◌≤◌, ◌==◌, if◌then◌else◌, List, [], ◌∷◌, length, All}
 use Rattle.std.specs.Int.{bit_at}
+use Rattle.ent_types.specs.declared.limits.TheConstants.{MOST_TYPES}
 
 -- the number that the words spell
 abbrev pub number_of : List ℕ → ℕ
@@ -14,7 +15,7 @@ ones_from at (suc count) n = if n % 2 == 1 then at ∷ ones_from (at + 1) count 
 
 -- the types that the words hold
 abbrev pub types_of : List ℕ → List ℕ
-types_of words = ones_from 0 256 (number_of words)
+types_of words = ones_from 0 MOST_TYPES (number_of words)
 
 -- there are four words of 64 bits
 pub record IsWords (words : List ℕ) : Type 0 where

@@ -3,11 +3,12 @@ use Rattle.std.specs.Prelude.{ℕ, List, [], ◌∷◌, Bool, true, false, not, 
 use Rattle.std.specs.List.{list_any}
 use Rattle.std.specs.Cmp.Lexicographic.{pointwise}
 use Rattle.ent_types.specs.declared.kinds.Kind.{Kind}
-use Rattle.ent_types.specs.declared.kinds.Kind.TheVariants.{Plain, Tag, Shared, Cleanup}
+use Rattle.ent_types.specs.declared.kinds.Kind.TheVariants.{Plain, Tag, Shared, Cleanup, Buffer}
 use Rattle.ent_types.specs.declared.kinds.FieldKind.{FieldKind}
 use Rattle.ent_types.specs.declared.kinds.FieldKind.TheVariants.{I32, I64, Ref}
 use Rattle.ent_types.specs.declared.type_info.FieldInfo.{FieldInfo}
 use Rattle.ent_types.specs.declared.type_info.TypeInfo.{TypeInfo}
+use Rattle.ent_types.specs.declared.limits.TheConstants.{MOST_SHARED_FIELDS, MOST_BUFFER_FIELDS}
 
 -- whether two names are equal
 abbrev pub same_name : List ℕ → List ℕ → Bool
@@ -30,15 +31,41 @@ is_ref f = is_ref_kind f.kind
 abbrev pub has_shape : Kind → List FieldInfo → Bool
 has_shape Plain fields = nat_le 1 (length fields)
 has_shape Tag fields = length fields == 0
-has_shape Shared fields = (nat_le 1 (length fields) && nat_le (length fields) 8) && not (list_any is_ref fields)
+has_shape Shared fields = (nat_le 1 (length fields) && nat_le (length fields) MOST_SHARED_FIELDS) && not (list_any is_ref fields)
 has_shape Cleanup fields = true
+has_shape Buffer fields = nat_le 1 (length fields) && nat_le (length fields) MOST_BUFFER_FIELDS
 
--- whether a type of this kind may be switched off in a row
+-- whether a type of this kind may be disabled in a row
 abbrev pub may_be_enableable : Kind → Bool
 may_be_enableable Plain = true
 may_be_enableable Tag = true
 may_be_enableable Shared = false
 may_be_enableable Cleanup = false
+may_be_enableable Buffer = false
+
+-- whether all rows of a block have one value of a type of this kind
+abbrev pub is_shared : Kind → Bool
+is_shared Plain = false
+is_shared Tag = false
+is_shared Shared = true
+is_shared Cleanup = false
+is_shared Buffer = false
+
+-- whether a destroyed row stays while it has a type of this kind
+abbrev pub is_cleanup : Kind → Bool
+is_cleanup Plain = false
+is_cleanup Tag = false
+is_cleanup Shared = false
+is_cleanup Cleanup = true
+is_cleanup Buffer = false
+
+-- whether a row has a list of elements of a type of this kind
+abbrev pub is_buffer : Kind → Bool
+is_buffer Plain = false
+is_buffer Tag = false
+is_buffer Shared = false
+is_buffer Cleanup = false
+is_buffer Buffer = true
 
 abbrev pub field_names_of : List FieldInfo → List (List ℕ)
 field_names_of fields = map (λ f. f.name) fields
@@ -67,6 +94,7 @@ has_column Plain = true
 has_column Tag = false
 has_column Shared = false
 has_column Cleanup = true
+has_column Buffer = false
 
 -- the bytes that a row takes in the type's column; 0 where it has none
 unfoldable pub column_size : TypeInfo → ℕ

@@ -1,6 +1,7 @@
 -- system versions: moments count up without end, and a version is a moment kept in 32 bits
 use Rattle.std.specs.Prelude.{ℕ, zero, suc, ◌+◌, ◌^◌, ◌<◌, ◌≤◌, Bool, ◌||◌, ◌==◌, if◌then◌else◌, pos, ◌-ℤ◌, int_lt}
 use Rattle.std.specs.Int.{int_wrap, w32}
+use Rattle.ent_types.specs.declared.limits.TheConstants.{MOST_MOMENTS}
 
 -- one more, or 1 after the largest, so that no version is 0
 abbrev pub next_version : ℕ → ℕ
@@ -17,10 +18,10 @@ pub record IsVersion (version : ℕ) : Type 0 where
   pub from_one : 1 ≤ version
   pub within : version < 2 ^ 32
 
--- a moment of a run, which has at most 26,200,001 of them
+-- a moment of a run, of which there are at most MOST_MOMENTS
 pub record IsMoment (moment : ℕ) : Type 0 where
   pub from_one : 1 ≤ moment
-  pub within : moment ≤ 26200001
+  pub within : moment ≤ MOST_MOMENTS
 
 -- whether a change of this version is later than the version that is required: the difference, wrapped to 32
 -- bits and read as signed, is above 0. Every change is later than the version 0, which stands for 'never'

@@ -21,6 +21,21 @@ impl Entity {
     };
 }
 
-/// The number of a type, in order of declaration. 0, 1 and 2 are the built-in types.
+/// The number of a type, in order of declaration. The built-in types come first.
 #[derive(Clone, Copy, Debug, PartialEq, Eq, PartialOrd, Ord, Hash)]
 pub struct TypeId(pub u16);
+
+/// How many types each registry begins with: `Disabled`, `Prefab` and `SceneTag`. The first declared type has this
+/// number.
+pub const BUILT_IN_TYPES: usize = 3;
+
+impl TypeId {
+    /// The tag `Disabled`. Queries pass over rows that have it, unless they ask for them (Unity's behaviour).
+    pub const DISABLED: TypeId = TypeId(0);
+
+    /// The tag `Prefab`. Queries pass over rows that have it, unless they ask for them (Unity's behaviour).
+    pub const PREFAB: TypeId = TypeId(1);
+
+    /// The shared type `SceneTag`, whose value is the number of the load that a row came with.
+    pub const SCENE_TAG: TypeId = TypeId(2);
+}

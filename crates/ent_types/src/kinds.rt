@@ -1,7 +1,7 @@
 //! Kinds of types and of fields.
 ghost use Rattle.std.specs.Prelude.{◌≡◌};
 ghost use Rattle.std.specs.Int.{int_wrap, w32};
-ghost use Rattle.ent_types.specs.Types.{field_size, has_column, may_be_enableable};
+ghost use Rattle.ent_types.specs.Types.{field_size, is_ref_kind, has_column, may_be_enableable, is_shared, is_cleanup, is_buffer};
 ghost use Rattle.ent_types.specs.Fitting.{fit_number};
 
 /// What a field holds.
@@ -26,6 +26,8 @@ pub enum Kind {
     Shared,
     /// As plain, but a destroyed row stays, without its other types, until these are removed (Unity's behaviour).
     Cleanup,
+    /// Each row has a list of elements, each with one value for each field. The list lies outside the block.
+    Buffer,
 }
 
 impl FieldKind {
@@ -38,27 +40,67 @@ impl FieldKind {
             FieldKind::I64 | FieldKind::Ref => 8,
         }
     }
+
+    /// `true` if a field of this kind holds an entity.
+    pub fn is_ref(self) -> bool
+        ensures { result ≡ is_ref_kind self }
+    {
+        match self {
+            FieldKind::I32 | FieldKind::I64 => false,
+            FieldKind::Ref => true,
+        }
+    }
 }
 
 impl Kind {
-    /// Says whether a type of this kind has a column in a block. A tag has no values, and a block keeps shared
-    /// values beside its columns.
+    /// `true` if a type of this kind has a column in a block. A tag has no values, a block keeps shared values once
+    /// for all its rows, and the elements of a buffer lie outside the block.
     pub fn has_column(self) -> bool
         ensures { result ≡ has_column self }
     {
         match self {
             Kind::Plain | Kind::Cleanup => true,
-            Kind::Tag | Kind::Shared => false,
+            Kind::Tag | Kind::Shared | Kind::Buffer => false,
         }
     }
 
-    /// Says whether a type of this kind can be switched off in a row (Unity's behaviour).
+    /// `true` if a type of this kind can be disabled in a row (Unity's behaviour).
     pub fn may_be_enableable(self) -> bool
         ensures { result ≡ may_be_enableable self }
     {
         match self {
             Kind::Plain | Kind::Tag => true,
-            Kind::Shared | Kind::Cleanup => false,
+            Kind::Shared | Kind::Cleanup | Kind::Buffer => false,
+        }
+    }
+
+    /// `true` if all rows of a block have one value of a type of this kind.
+    pub fn is_shared(self) -> bool
+        ensures { result ≡ is_shared self }
+    {
+        match self {
+            Kind::Plain | Kind::Tag | Kind::Cleanup | Kind::Buffer => false,
+            Kind::Shared => true,
+        }
+    }
+
+    /// `true` if a destroyed row stays while it has a type of this kind.
+    pub fn is_cleanup(self) -> bool
+        ensures { result ≡ is_cleanup self }
+    {
+        match self {
+            Kind::Plain | Kind::Tag | Kind::Shared | Kind::Buffer => false,
+            Kind::Cleanup => true,
+        }
+    }
+
+    /// `true` if a row has a list of elements of a type of this kind.
+    pub fn is_buffer(self) -> bool
+        ensures { result ≡ is_buffer self }
+    {
+        match self {
+            Kind::Plain | Kind::Tag | Kind::Shared | Kind::Cleanup => false,
+            Kind::Buffer => true,
         }
     }
 }

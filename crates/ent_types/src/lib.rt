@@ -4,26 +4,27 @@
 
 mod entity;
 mod kinds;
+pub mod limits;
 mod memory;
 mod name;
 mod point;
 mod registry;
-#[cfg(test)]
-mod registry_tests;
 mod sequence;
+mod skip;
 mod steps;
 mod type_info;
 mod type_set;
 mod value;
 mod version;
 
-pub use entity::{Entity, TypeId};
+pub use entity::{BUILT_IN_TYPES, Entity, TypeId};
 pub use kinds::{FieldKind, Kind, fit};
 pub use memory::Memory;
-pub use name::{LONGEST_NAME, Name};
+pub use name::Name;
 pub use point::Point;
-pub use registry::{MOST_FIELDS, MOST_TYPES, Registry, RegistryFault};
+pub use registry::{Registry, RegistryFault};
 pub use sequence::Sequence;
+pub use skip::Skip;
 pub use steps::Steps;
 pub use type_info::{FieldInfo, TypeInfo};
 pub use type_set::{TypeSet, Types};

@@ -10,13 +10,11 @@ ghost use Rattle.std.specs.Hash as fed;
 ghost use Rattle.std.proofs.Common.{rules};
 ghost use Rattle.ent_types.specs.Names.{is_name, is_name_start, is_name_byte, name_of};
 
+use crate::limits::LONGEST_NAME;
 use std::cmp::Ordering;
 use std::hash::{Hash, Hasher};
 use std::marker::Model;
 use std::{fmt, str};
-
-/// The greatest number of bytes of a name.
-pub const LONGEST_NAME: usize = 32;
 
 /// A name: 1 to 32 bytes, an ASCII letter or `_`, then letters, digits or `_`. Contracts see the list of its bytes.
 ///
@@ -30,6 +28,7 @@ pub struct Name {
 impl Model for Name {
     ghost use Rattle.std.specs.Prelude.{ℕ, List, ◌-◌, ◌++◌, length, replicate, take};
     ghost use Rattle.std.proofs.Common.{refl};
+    ghost use Rattle.ent_types.specs.declared.limits.TheConstants.{LONGEST_NAME};
     ghost use Rattle.ent_types.specs.PaddedNames.{IsPadded, padded_length, padded_bytes};
 
     ghost Value = { List ℕ };
@@ -38,7 +37,7 @@ impl Model for Name {
 
     ghost invariant = { λ n. IsPadded n.bytes n.len };
 
-    ghost inverse = { λ n. record { bytes = n ++ replicate (32 - length n) 0; len = length n } };
+    ghost inverse = { λ n. record { bytes = n ++ replicate (LONGEST_NAME - length n) 0; len = length n } };
 
     ghost inverse_ok = { λ a h. Prim.rw (padded_bytes a.bytes a.len h, padded_length a.bytes a.len h) refl };
 }

@@ -1,33 +1,29 @@
 //! The types of a scenario, by number and by name.
-ghost use Rattle.std.specs.Prelude.{◌≡◌, ◌<◌, ◌≤◌, [], ◌∷◌, ◌++◌, length, slice_get, option_map, true, false, IfSome, IfOk, IsTrue, OnOk, OnErr, MatchResult, None};
+ghost use Rattle.std.specs.Prelude.{◌≡◌, ◌<◌, ◌≤◌, [], ◌∷◌, ◌++◌, length, slice_get, option_map, true, false, IfSome, IfOk, IsTrue, ◌↔◌, OnOk, OnErr, MatchResult, None};
 ghost use Rattle.std.specs.List.{list_any};
 ghost use Rattle.ent_types.specs.Names.{is_name};
 ghost use Rattle.ent_types.specs.Types.{same_name, are_distinct, is_lawful_type};
 ghost use Rattle.ent_types.specs.Registries.{type_id_named, type_at, type_names, plain_tag, scene_tag_type, built_in_types, IsLawfulRegistry};
+ghost use Rattle.ent_types.specs.TypeLookups.{kind_at, fields_at, field_kind_at, column_size_at, has_column_at, is_shared_at, is_cleanup_at, is_buffer_at, is_enableable_at};
 ghost use Rattle.ent_types.specs.Refusals.{refusal, IsDue};
 
-use crate::{FieldInfo, FieldKind, Kind, Memory, Name, Sequence, TypeId, TypeInfo};
+use crate::limits::{MOST_COLUMN_BYTES, MOST_FIELDS, MOST_TYPES};
+use crate::{BUILT_IN_TYPES, FieldInfo, FieldKind, Kind, Memory, Name, Sequence, TypeId, TypeInfo};
 use indexmap::IndexSet;
 use std::alloc::Global;
 use std::marker::Model;
 use thiserror::Error;
 
-/// The greatest number of types, the three built-in ones among them.
-pub const MOST_TYPES: usize = 256;
-
-/// The greatest number of fields of a type.
-pub const MOST_FIELDS: usize = 64;
-
 /// Why a registry refused a type.
 #[derive(Clone, Copy, Debug, PartialEq, Eq, Error)]
 pub enum RegistryFault {
-    /// The type has more than 64 fields.
+    /// The type has more than `MOST_FIELDS` fields.
     #[error("more than 64 fields")]
     TooWide,
     /// A type with this name is there.
     #[error("a type of this name is there")]
     Duplicate,
-    /// 256 types are there.
+    /// `MOST_TYPES` types are there.
     #[error("256 types are there")]
     TooManyTypes,
     /// Memory ran out.
@@ -48,8 +44,8 @@ impl From<Memory> for RegistryFault {
 
 /// The types of a scenario in the order of their numbers. Contracts see the list of them.
 ///
-/// Each is lawful, has at most 64 fields and a name of its own; the built-in types `Disabled`, `Prefab` and `SceneTag`
-/// come first; and there are at most 256. This project's own.
+/// Each is lawful, has at most `MOST_FIELDS` fields and a name of its own; the built-in types `Disabled`, `Prefab` and
+/// `SceneTag` come first; and there are at most `MOST_TYPES`.
 #[derive(Debug, Drop)]
 pub struct Registry {
     types: Vec<TypeInfo>,
@@ -91,8 +87,8 @@ impl Registry {
 
     /// Gives a type the next number. The registry is as before after an error.
     ///
-    /// The first that holds is the fault: `TooWide` where the type has more than 64 fields, `Duplicate` where its name
-    /// is there, `TooManyTypes` where 256 types are there. `Memory` comes only where none of them holds.
+    /// The first that holds is the fault: `TooWide` if the type has more than `MOST_FIELDS` fields, `Duplicate` if a type
+    /// has its name, `TooManyTypes` if `MOST_TYPES` types are there. `Memory` is returned only if none of them holds.
     pub fn add(&mut self, info: TypeInfo) -> Result<TypeId, RegistryFault>
         requires { IsTrue (is_lawful_type info) }
         ensures ok { OnOk result (self.new ≡ self.old ++ info ∷ []) }
@@ -126,20 +122,110 @@ impl Registry {
     pub fn find(&self, name: &Name) -> Option<TypeId>
         ensures place { result ≡ type_id_named self.now name.now }
         ensures within { IfSome result (λ ty. ty.0 < length self.now) }
+        ensures small { IfSome result (λ ty. ty.0 < MOST_TYPES) }
     {
         let at = self.names.get_index_of(name)?;
         Some(TypeId(at as u16))
     }
 
-    /// The type with this number. It is lawful and has at most 64 fields.
+    /// `true` if there is a type with this number.
+    pub fn knows(&self, ty: TypeId) -> bool
+        ensures value { IsTrue result ↔ (ty.0 < length self.now) }
+        ensures most { length self.now ≤ MOST_TYPES }
+    {
+        usize::from(ty.0) < self.types.len()
+    }
+
+    /// The type with this number. It is lawful and has at most `MOST_FIELDS` fields.
     pub fn info(&self, ty: TypeId) -> &TypeInfo
         requires { ty.0 < length self.now }
         ensures value { result.now ≡ type_at self.now ty.0 }
         ensures there { slice_get self.now ty.0 ≡ Some result.now }
         ensures lawful { IsTrue (is_lawful_type result.now) }
-        ensures width { length result.now.fields ≤ 64 }
+        ensures width { length result.now.fields ≤ MOST_FIELDS }
     {
         &self.types[ty.0 as usize]
+    }
+
+    /// The kind of a type; that of a tag if there is no such type.
+    pub fn kind(&self, ty: TypeId) -> Kind
+        ensures { result ≡ kind_at self.now ty.0 }
+    {
+        match self.types.as_slice().get(usize::from(ty.0)) {
+            Some(info) => info.kind,
+            None => Kind::Tag,
+        }
+    }
+
+    /// The fields of a type, in order; none if there is no such type.
+    pub fn fields(&self, ty: TypeId) -> &[FieldInfo]
+        ensures value { result.now ≡ fields_at self.now ty.0 }
+        ensures width { length result.now ≤ MOST_FIELDS }
+    {
+        if !self.knows(ty) {
+            return &[];
+        }
+        self.info(ty).fields.as_slice()
+    }
+
+    /// The kind of the field at a place from 0; i32 if there is no such type or field.
+    pub fn field_kind(&self, ty: TypeId, at: usize) -> FieldKind
+        ensures { result ≡ field_kind_at self.now ty.0 at }
+    {
+        match self.fields(ty).get(at) {
+            Some(field) => field.kind,
+            None => FieldKind::I32,
+        }
+    }
+
+    /// The bytes that a row takes in the column of a type; 0 if it has no column or there is no such type.
+    #[tactic(auto, unfolding(crate::specs::Types::column_size))]
+    pub fn column_size(&self, ty: TypeId) -> u32
+        ensures value { result ≡ column_size_at self.now ty.0 }
+        ensures most { result ≤ MOST_COLUMN_BYTES }
+    {
+        if !self.knows(ty) {
+            return 0;
+        }
+        self.info(ty).column_size()
+    }
+
+    /// `true` if there is such a type and it has a column in a block.
+    pub fn has_column(&self, ty: TypeId) -> bool
+        ensures { result ≡ has_column_at self.now ty.0 }
+    {
+        self.kind(ty).has_column()
+    }
+
+    /// `true` if there is such a type and all rows of a block have one value of it.
+    pub fn is_shared(&self, ty: TypeId) -> bool
+        ensures { result ≡ is_shared_at self.now ty.0 }
+    {
+        self.kind(ty).is_shared()
+    }
+
+    /// `true` if there is such a type and a destroyed row stays while it has it.
+    pub fn is_cleanup(&self, ty: TypeId) -> bool
+        ensures { result ≡ is_cleanup_at self.now ty.0 }
+    {
+        self.kind(ty).is_cleanup()
+    }
+
+    /// `true` if there is such a type and a row has a list of elements of it.
+    pub fn is_buffer(&self, ty: TypeId) -> bool
+        ensures { result ≡ is_buffer_at self.now ty.0 }
+    {
+        self.kind(ty).is_buffer()
+    }
+
+    /// `true` if there is such a type and it can be disabled in a row.
+    pub fn is_enableable(&self, ty: TypeId) -> bool
+        ensures { result ≡ is_enableable_at self.now ty.0 }
+    {
+        match self.types.as_slice().get(usize::from(ty.0)) {
+            Some(info) => info.enableable,
+            None => false,
+        }
     }
 
     /// All types, in the order of their numbers.
@@ -150,11 +236,11 @@ impl Registry {
         self.types.as_slice()
     }
 
-    /// The number of types: from 3 to 256.
+    /// The number of types: from `BUILT_IN_TYPES` to `MOST_TYPES`.
     pub fn len(&self) -> usize
         ensures count { result ≡ length self.now }
-        ensures least { 3 ≤ result }
-        ensures most { result ≤ 256 }
+        ensures least { BUILT_IN_TYPES ≤ result }
+        ensures most { result ≤ MOST_TYPES }
     {
         self.types.len()
     }

@@ -3,11 +3,9 @@ ghost use Rattle.std.specs.Prelude.{◌≡◌, ◌<◌, ◌≤◌, length, posit
 ghost use Rattle.std.specs.List.{list_any};
 ghost use Rattle.ent_types.specs.Types.{same_name, has_shape, is_ref, are_distinct, field_names_of, is_lawful_type, field_named, field_size, column_size};
 
+use crate::limits::{MOST_BUFFER_FIELDS, MOST_COLUMN_BYTES, MOST_FIELDS, MOST_SHARED_FIELDS};
 use crate::{FieldKind, Kind, Memory, Name, Sequence};
 use std::alloc::Global;
-
-/// The greatest number of fields of a shared type.
-const MOST_SHARED_FIELDS: usize = 8;
 
 /// A field of a type.
 #[derive(Clone, Copy, Debug)]
@@ -32,8 +30,9 @@ pub struct TypeInfo {
 }
 
 impl TypeInfo {
-    /// Says whether the type is well formed: a plain type has a field, a tag has none, and a shared type has 1 to 8,
-    /// none of them a ref; only plain types and tags may be enableable; and no two fields have one name.
+    /// `true` if the type is well formed: a plain type has a field, a tag has none, a shared type has 1 to 8, none of
+    /// them a ref, and a buffer type has 1 to 8; only plain types and tags may be enableable; and no two fields have
+    /// one name.
     ///
     /// This project's own. The number of fields that a registry takes is tested by `Registry::add`.
     #[tactic(auto, unfolding(crate::specs::Types::is_lawful_type))]
@@ -58,16 +57,14 @@ impl TypeInfo {
             Kind::Tag => count == 0,
             Kind::Shared => count >= 1 && count <= MOST_SHARED_FIELDS && !self.has_ref(),
             Kind::Cleanup => true,
+            Kind::Buffer => count >= 1 && count <= MOST_BUFFER_FIELDS,
         }
     }
 
     fn has_ref(&self) -> bool
         ensures { result ≡ list_any is_ref self.now.fields }
     {
-        self.fields
-            .as_slice()
-            .iter()
-            .any(|f| f.kind == FieldKind::Ref)
+        self.fields.as_slice().iter().any(|f| f.kind.is_ref())
     }
 
     /// A copy of the type.
@@ -83,11 +80,12 @@ impl TypeInfo {
         })
     }
 
-    /// The bytes that a row takes in the type's column: 0 for a tag or a shared type, which have none.
+    /// The bytes that a row takes in the type's column: 0 for a tag, a shared type or a buffer type, which have none.
     #[tactic(auto, unfolding(crate::specs::Types::column_size))]
     pub fn column_size(&self) -> u32
-        requires { length self.now.fields ≤ 64 }
-        ensures { result ≡ column_size self.now }
+        requires { length self.now.fields ≤ MOST_FIELDS }
+        ensures value { result ≡ column_size self.now }
+        ensures most { result ≤ MOST_COLUMN_BYTES }
     {
         if !self.kind.has_column() {
             return 0;
@@ -98,7 +96,7 @@ impl TypeInfo {
     /// The place of the field with this name, from 0; `None` exactly where no field has it.
     #[tactic(auto, unfolding(crate::specs::Types::field_named))]
     pub fn field_named(&self, name: &Name) -> Option<u8>
-        requires { length self.now.fields ≤ 64 }
+        requires { length self.now.fields ≤ MOST_FIELDS }
         ensures place { result ≡ field_named self.now name.now }
         ensures within { IfSome result (λ at. at < length self.now.fields) }
     {
@@ -109,8 +107,9 @@ impl TypeInfo {
 
 /// The bytes that these fields take in a row.
 fn total_size(fields: &[FieldInfo]) -> u32
-    requires { length fields.now ≤ 64 }
-    ensures { result ≡ sum_by (λ f. field_size f.kind) fields.now }
+    requires { length fields.now ≤ MOST_FIELDS }
+    ensures value { result ≡ sum_by (λ f. field_size f.kind) fields.now }
+    ensures most { result ≤ MOST_COLUMN_BYTES }
 {
     let mut total = 0;
     for field in fields {

@@ -9,13 +9,14 @@ ghost use Rattle.ent_types.specs.TypeWords.{IsFirstBit, HasNoBit};
 ghost use Rattle.ent_types.specs.TypeSets.{IsRisingBelow, has_type, with_type, without_type, is_subset_of, meets, next_type};
 
 use crate::TypeId;
+use crate::limits::MOST_TYPES;
 use std::hash::{Hash, Hasher};
 use std::marker::Model;
 
-/// A set of types whose numbers are below 256. Contracts see the rising list of the numbers.
+/// A set of types whose numbers are below `MOST_TYPES`. Contracts see the rising list of the numbers.
 ///
 /// It is one bit for each type, so no call takes memory, and each takes a few operations on words. Equal sets are
-/// equal lists. This project's own.
+/// equal lists.
 #[derive(Clone, Copy, Debug)]
 pub struct TypeSet {
     // Type t is the bit t % 64 of word t / 64.
@@ -123,9 +124,9 @@ impl TypeSet {
 
     /// The set, and the type.
     pub fn with(&self, ty: TypeId) -> TypeSet
-        requires { ty.0 < 256 }
+        requires { ty.0 < MOST_TYPES }
         ensures value { result ≡ with_type self.now ty.0 }
-        ensures rising { IsRisingBelow 256 result }
+        ensures rising { IsRisingBelow MOST_TYPES result }
     {
         let mut words = self.words;
         words[usize::from(ty.0 / 64)] |= 1 << (ty.0 % 64);
@@ -134,9 +135,9 @@ impl TypeSet {
 
     /// The set without the type.
     pub fn without(&self, ty: TypeId) -> TypeSet
-        requires { ty.0 < 256 }
+        requires { ty.0 < MOST_TYPES }
         ensures value { result ≡ without_type self.now ty.0 }
-        ensures rising { IsRisingBelow 256 result }
+        ensures rising { IsRisingBelow MOST_TYPES result }
     {
         let mut words = self.words;
         words[usize::from(ty.0 / 64)] &= !(1 << (ty.0 % 64));
@@ -145,9 +146,9 @@ impl TypeSet {
 
     /// Says whether the type is in the set.
     pub fn has(&self, ty: TypeId) -> bool
-        requires { ty.0 < 256 }
+        requires { ty.0 < MOST_TYPES }
         ensures value { result ≡ has_type self.now ty.0 }
-        ensures rising { IsRisingBelow 256 self.now }
+        ensures rising { IsRisingBelow MOST_TYPES self.now }
     {
         self.words[usize::from(ty.0 / 64)] >> (ty.0 % 64) & 1 == 1
     }
@@ -156,7 +157,7 @@ impl TypeSet {
     pub fn is_subset(&self, other: &TypeSet) -> bool
         ensures value { result ≡ is_subset_of self.now other.now }
         ensures each { IsTrue result ↔ ((ty : ℕ) → IsTrue (has_type self.now ty) → IsTrue (has_type other.now ty)) }
-        ensures rising { IsRisingBelow 256 self.now × IsRisingBelow 256 other.now }
+        ensures rising { IsRisingBelow MOST_TYPES self.now × IsRisingBelow MOST_TYPES other.now }
     {
         are_covered(&self.words, &other.words)
     }
@@ -165,7 +166,7 @@ impl TypeSet {
     pub fn meets(&self, other: &TypeSet) -> bool
         ensures value { result ≡ meets self.now other.now }
         ensures some { IsTrue result ↔ ((ty : ℕ) × IsTrue (has_type self.now ty) × IsTrue (has_type other.now ty)) }
-        ensures rising { IsRisingBelow 256 self.now × IsRisingBelow 256 other.now }
+        ensures rising { IsRisingBelow MOST_TYPES self.now × IsRisingBelow MOST_TYPES other.now }
     {
         share_a_bit(&self.words, &other.words)
     }
@@ -173,8 +174,8 @@ impl TypeSet {
     /// The number of types in the set.
     pub fn len(&self) -> u32
         ensures value { result ≡ length self.now }
-        ensures bound { result ≤ 256 }
-        ensures rising { IsRisingBelow 256 self.now }
+        ensures bound { result ≤ MOST_TYPES }
+        ensures rising { IsRisingBelow MOST_TYPES self.now }
     {
         count_bits(&self.words)
     }
@@ -189,8 +190,8 @@ impl TypeSet {
     /// The first type of the set whose number is `from` or more.
     pub fn next_from(&self, from: u16) -> Option<TypeId>
         ensures value { option_map (λ ty. ty.0) result ≡ next_type self.now from }
-        ensures found { IfSome result (λ ty. (from ≤ ty.0) × (ty.0 < 256) × IsTrue (has_type self.now ty.0)) }
-        ensures rising { IsRisingBelow 256 self.now }
+        ensures found { IfSome result (λ ty. (from ≤ ty.0) × (ty.0 < MOST_TYPES) × IsTrue (has_type self.now ty.0)) }
+        ensures rising { IsRisingBelow MOST_TYPES self.now }
     {
         let start = usize::from(from / 64);
         let mut lowest = u32::from(from % 64);
@@ -206,8 +207,8 @@ impl TypeSet {
     /// The types of the set, in rising order.
     pub fn iter(&self) -> Types
         ensures value { result ≡ self.now }
-        ensures rising { IsRisingBelow 256 self.now }
-        ensures bound { length self.now ≤ 256 }
+        ensures rising { IsRisingBelow MOST_TYPES self.now }
+        ensures bound { length self.now ≤ MOST_TYPES }
     {
         Types {
             left: TypeSet { words: self.words },
@@ -217,7 +218,7 @@ impl TypeSet {
 
 /// A walk over the types of a set, in rising order. Contracts see the list of the numbers of those that are left.
 ///
-/// It costs what the set has, and not 256. This project's own.
+/// It costs what the set has, and not `MOST_TYPES`.
 #[derive(Debug, Drop)]
 pub struct Types {
     left: TypeSet,
@@ -247,6 +248,3 @@ impl Iterator for Types {
         Some(first)
     }
 }
-
-#[cfg(test)]
-mod tests;

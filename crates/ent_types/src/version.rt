@@ -37,6 +37,3 @@ impl SystemVersion {
         required.0 == 0 || self.0.wrapping_sub(required.0).cast_signed() > 0
     }
 }
-
-#[cfg(test)]
-mod tests;
