@@ -164,8 +164,8 @@ module _ (clock : Clock) (capacity : List ℕ → ℕ) (trace : Bool) where
     where
       on : List Buffer → Course
       on buffers = buffers_played frame buffers (with_lines
-        (record (raised st) { waiting = filter (λ b. not (waits_at point b)) st.waiting })
-        (play_lines frame point (raised st).world buffers))
+          (record (raised st) { waiting = filter (λ b. not (waits_at point b)) st.waiting })
+          (play_lines frame point (raised st).world buffers))
 
   -- systems
 

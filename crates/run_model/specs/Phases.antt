@@ -1,5 +1,5 @@
 -- Which systems may run side by side, and what they make together.
-use Rattle.std.specs.Prelude.{◌≡◌, ℕ, zero, suc, ◌+◌, Bool, not, ◌&&◌, ◌||◌, if◌then◌else◌, List, [], ◌∷◌, ◌++◌, length, map, filter, take, flat_map, is_some, Option, Some, None}
+use Rattle.std.specs.Prelude.{◌≡◌, ℕ, zero, suc, ◌+◌, Bool, false, not, ◌&&◌, ◌||◌, if◌then◌else◌, List, [], ◌∷◌, ◌++◌, length, map, filter, take, flat_map, is_some, Option, Some, None}
 use Rattle.std.specs.List.{list_any}
 use Rattle.ent_types.specs.declared.type_info.TypeInfo.{TypeInfo}
 use Rattle.ent_types.specs.TypeSets.{has_type, meets}
@@ -113,7 +113,7 @@ module _ (clock : Clock) (registry : List TypeInfo) (frame : ℕ) (others : Othe
   rows_ran s item home place (suc k) (r ∷ rs) =
       if matches registry s (record { home = home; row = r })
       then row_after registry s others (record { frame = frame; item = item; place = place }) (record { home = home; row = r })
-          ∷ rows_ran s item home (place + 1) k rs
+      ∷ rows_ran s item home (place + 1) k rs
       else r ∷ rows_ran s item home (place + 1) (suc k) rs
 
   -- an item after its first so many rows that match; all else is read as it was before the phase

@@ -2,7 +2,7 @@
 use Rattle.std.specs.Prelude.{ℕ, Bool, true, false, not, ◌&&◌, ◌||◌, nat_eq, List, [], ◌∷◌, Option, Some, None}
 use Rattle.std.specs.List.{list_any, list_all}
 use Rattle.ent_types.specs.declared.entity.TypeId.{TypeId}
-use Rattle.ent_types.specs.declared.entity.TypeId.TheConstants.{DISABLED, PREFAB}
+use Rattle.ent_types.specs.declared.entity.TheConstants.TypeId.{DISABLED, PREFAB}
 use Rattle.ent_types.specs.declared.type_info.TypeInfo.{TypeInfo}
 use Rattle.ent_types.specs.TypeLookups.{is_enableable_at}
 use Rattle.ent_types.specs.TypeSets.{has_type}

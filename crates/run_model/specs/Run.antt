@@ -72,7 +72,7 @@ module _ (registry : List TypeInfo) (s : SystemEntry) where
   met_rows item home place [] = []
   met_rows item home place (r ∷ rs) =
       (if matches registry s (record { home = home; row = r })
-       then record { item = item; place = place; at = record { home = home; row = r } } ∷ [] else [])
+      then record { item = item; place = place; at = record { home = home; row = r } } ∷ [] else [])
       ++ met_rows item home (place + 1) rs
 
 -- ---- all blocks
