@@ -142,12 +142,14 @@ module _ (X : ℕ → Type 0) where
 
         rolled : (x : Expr-F Expr)
             → (Sees (own_step (map-Expr Expr (List ℕ) own_in x)) (looked_step (map-Expr Expr (List ℕ) looked_in x))
-              → value_step (own cs) o (map-Expr Expr ℤ (value (own cs) o) x) ≡ value_step (own ds) p (map-Expr Expr ℤ (value (own ds) p) x))
+            → value_step (own cs) o (map-Expr Expr ℤ (value (own cs) o) x) ≡ value_step (own ds) p (map-Expr Expr ℤ (value (own ds) p) x))
             → IsSame (roll-Expr x)
         rolled x h w =
             fold-roll-Expr ℤ (value_step (own cs) o) x
-            ∙ (h ( subst (λ ts. Within ts X) (fold-roll-Expr (List ℕ) own_step x) w.0
-                 , subst (λ ts. Within ts X) (fold-roll-Expr (List ℕ) looked_step x) w.1)
+            ∙ (h (
+              subst (λ ts. Within ts X) (fold-roll-Expr (List ℕ) own_step x) w.0,
+              subst (λ ts. Within ts X) (fold-roll-Expr (List ℕ) looked_step x) w.1,
+            )
             ∙ sym (fold-roll-Expr ℤ (value_step (own ds) p) x))
 
         layer : (y : Expr-F ((e : Expr) × IsSame e)) → IsSame (roll-Expr (map-Expr ((e : Expr) × IsSame e) Expr (λ e. e.0) y))
@@ -157,13 +159,13 @@ module _ (X : ℕ → Type 0) where
         layer (Expr-F.Unary op a) = rolled (Expr-F.Unary op a.0) (λ w. ap (value_unary op) (a.1 w))
         layer (Expr-F.Binary op a b) = rolled (Expr-F.Binary op a.0 b.0)
             (λ w. ap₂ (value_binary op) (a.1 (sees_left (own_in a.0) (own_in b.0) (looked_in a.0) (looked_in b.0) w))
-                (b.1 (sees_right (own_in a.0) (own_in b.0) (looked_in a.0) (looked_in b.0) w)))
+            (b.1 (sees_right (own_in a.0) (own_in b.0) (looked_in a.0) (looked_in b.0) w)))
         layer (Expr-F.Pick c a b) = rolled (Expr-F.Pick c.0 a.0 b.0)
             (λ w. let rest = sees_right (own_in c.0) (own_in a.0 ++ own_in b.0) (looked_in c.0) (looked_in a.0 ++ looked_in b.0) w in
-                ap₂ (λ (u : Bool) (v : ℤ × ℤ). if u then v.0 else v.1)
-                  (ap is_true (c.1 (sees_left (own_in c.0) (own_in a.0 ++ own_in b.0) (looked_in c.0) (looked_in a.0 ++ looked_in b.0) w)))
-                  (ap₂ (λ y z. (y, z)) (a.1 (sees_left (own_in a.0) (own_in b.0) (looked_in a.0) (looked_in b.0) rest))
-                    (b.1 (sees_right (own_in a.0) (own_in b.0) (looked_in a.0) (looked_in b.0) rest))))
+            ap₂ (λ (u : Bool) (v : ℤ × ℤ). if u then v.0 else v.1)
+            (ap is_true (c.1 (sees_left (own_in c.0) (own_in a.0 ++ own_in b.0) (looked_in c.0) (looked_in a.0 ++ looked_in b.0) w)))
+            (ap₂ (λ y z. (y, z)) (a.1 (sees_left (own_in a.0) (own_in b.0) (looked_in a.0) (looked_in b.0) rest))
+            (b.1 (sees_right (own_in a.0) (own_in b.0) (looked_in a.0) (looked_in b.0) rest))))
         layer (Expr-F.Get r ty i) = rolled (Expr-F.Get r ty i)
             (λ w. ap (λ d. number_or_zero (o.value d ty i)) (ref_agree r w.0) ∙ ap number_or_zero (others.value (value_ref (own ds) r) ty i (w.1 ty.0 (inl refl))))
         layer (Expr-F.Alive r) = rolled (Expr-F.Alive r)
@@ -172,7 +174,7 @@ module _ (X : ℕ → Type 0) where
             (λ w. ap (λ d. truth (o.has d ty)) (ref_agree r w.0) ∙ ap truth (others.has (value_ref (own ds) r) ty))
         layer (Expr-F.Same r q) = rolled (Expr-F.Same r q)
             (λ w. ap₂ (λ d e. truth (same_entity d e)) (ref_agree r (within_left (own_in_ref r) (own_in_ref q) X w.0))
-                (ref_agree q (within_right (own_in_ref r) (own_in_ref q) X w.0)))
+            (ref_agree q (within_right (own_in_ref r) (own_in_ref q) X w.0)))
         layer (Expr-F.On ty) = rolled (Expr-F.On ty)
             (λ w. ap (λ b. truth (has_type home.types ty.0 && not b)) (off_same ty.0 (λ e. w.0 ty.0 (inl refl)) cs ds agree))
 
@@ -188,14 +190,14 @@ module _ (X : ℕ → Type 0) where
         text_agree : (t : Text) → Sees (own_text t) (looked_text t) → CellsAgree X (after_text registry o (own cs) t cs) (after_text registry p (own ds) t ds)
         text_agree (Assigns a) w =
             subst (λ v. CellsAgree X (after_text registry o (own cs) (Assigns a) cs) (with_values a.ty.0 (λ vs. slice_set vs a.field v) ds))
-              (fitted_agree (field_kind_at registry a.ty.0 a.field) a.value w)
-              (both_map (CellAgree X) (CellAgree X) set set (λ c d h. (h.0, λ x. ap set (h.1 x))) cs ds agree)
+            (fitted_agree (field_kind_at registry a.ty.0 a.field) a.value w)
+            (both_map (CellAgree X) (CellAgree X) set set (λ c d h. (h.0, λ x. ap set (h.1 x))) cs ds agree)
           where
             set : Cell → Cell
             set c = record c { values = if nat_eq c.type_id a.ty.0 then slice_set c.values a.field (fitted (field_kind_at registry a.ty.0 a.field) (own cs) o a.value) else c.values }
         text_agree (Switches s) w =
             subst (λ z. CellsAgree X (after_text registry o (own cs) (Switches s) cs) (switched s.ty.0 (is_true z) ds)) (value_agree s.value w)
-              (both_map (CellAgree X) (CellAgree X) turn turn (λ c d h. (h.0, λ x. ap turn (h.1 x))) cs ds agree)
+            (both_map (CellAgree X) (CellAgree X) turn turn (λ c d h. (h.0, λ x. ap turn (h.1 x))) cs ds agree)
           where
             turn : Cell → Cell
             turn c = record c { off = if nat_eq c.type_id s.ty.0 then not (is_true (value (own cs) o s.value)) else c.off }
@@ -218,9 +220,9 @@ module _ (X : ℕ → Type 0) where
         givens_agree t k [] w = refl
         givens_agree t k (v ∷ vs) w =
             ap₂ (λ (g : Given) gs. g ∷ gs)
-              (given_agree (field_kind_at registry t (k % length (fields_at registry t))) v
-                (sees_left (own_value v) (flat_map own_value vs) (looked_value v) (flat_map looked_value vs) w))
-              (givens_agree t (k + 1) vs (sees_right (own_value v) (flat_map own_value vs) (looked_value v) (flat_map looked_value vs) w))
+            (given_agree (field_kind_at registry t (k % length (fields_at registry t))) v
+            (sees_left (own_value v) (flat_map own_value vs) (looked_value v) (flat_map looked_value vs) w))
+            (givens_agree t (k + 1) vs (sees_right (own_value v) (flat_map own_value vs) (looked_value v) (flat_map looked_value vs) w))
 
         abbrev own_part : PartExpr → List ℕ
         own_part q = in_part own_in own_in_ref q
@@ -236,13 +238,13 @@ module _ (X : ℕ → Type 0) where
         parts_agree [] w = refl
         parts_agree (q ∷ qs) w =
             ap₂ (λ (r : PartOf Given) rs. r ∷ rs) (part_agree q (sees_left (own_part q) (flat_map own_part qs) (looked_part q) (flat_map looked_part qs) w))
-              (parts_agree qs (sees_right (own_part q) (flat_map own_part qs) (looked_part q) (flat_map looked_part qs) w))
+            (parts_agree qs (sees_right (own_part q) (flat_map own_part qs) (looked_part q) (flat_map looked_part qs) w))
 
         on_part : (f : PartOf Given → Act Given) (r : RefExpr) (q : PartExpr) → Sees (own_in_ref r ++ own_part q) (looked_part q)
             → Does (target_of (own cs) r) (f (part_given registry (own cs) o q)) ≡ Does (target_of (own ds) r) (f (part_given registry (own ds) p q))
         on_part f r q w =
             ap₂ (λ t g. Does t (f g)) (target_agree r (within_left (own_in_ref r) (own_part q) X w.0))
-              (part_agree q (within_right (own_in_ref r) (own_part q) X w.0, w.1))
+            (part_agree q (within_right (own_in_ref r) (own_part q) X w.0, w.1))
 
         deed_agree : (a : CommandText) → Sees (in_act own_in own_in_ref a) (in_act looked_in no_ref a)
             → deed_of registry (own cs) o a ≡ deed_of registry (own ds) p a
@@ -265,16 +267,16 @@ module _ (X : ℕ → Type 0) where
             let looked_key = looked_in c.key ++ in_act looked_in no_ref c.act in
             let late = sees_right (own_in c.when) own_key (looked_in c.when) looked_key here in
             let test : is_recorded registry (own cs) o recorded c ≡ is_recorded registry (own ds) p recorded c =
-                ap (λ z. is_true z && list_all (has_type recorded) (placeholders_in c.act))
-                  (value_agree c.when (sees_left (own_in c.when) own_key (looked_in c.when) looked_key here)) in
+            ap (λ z. is_true z && list_all (has_type recorded) (placeholders_in c.act))
+            (value_agree c.when (sees_left (own_in c.when) own_key (looked_in c.when) looked_key here)) in
             let said : saying_of registry (own cs) o n c ≡ saying_of registry (own ds) p n c =
-                ap₂ (λ z d. let x : Saying = record { key = int_wrap w32 z; point = c.buffer; number = n; deed = d } in x)
-                  (value_agree c.key (sees_left (own_in c.key) (in_act own_in own_in_ref c.act) (looked_in c.key) (in_act looked_in no_ref c.act) late))
-                  (deed_agree c.act (sees_right (own_in c.key) (in_act own_in own_in_ref c.act) (looked_in c.key) (in_act looked_in no_ref c.act) late)) in
+            ap₂ (λ z d. let x : Saying = record { key = int_wrap w32 z; point = c.buffer; number = n; deed = d } in x)
+            (value_agree c.key (sees_left (own_in c.key) (in_act own_in own_in_ref c.act) (looked_in c.key) (in_act looked_in no_ref c.act) late))
+            (deed_agree c.act (sees_right (own_in c.key) (in_act own_in own_in_ref c.act) (looked_in c.key) (in_act looked_in no_ref c.act) late)) in
             ap₂ (λ us vs. us ++ vs) (ap₂ (λ b (x : Saying). if b then x ∷ [] else []) test said)
             (ap (λ b. sayings_from registry (own cs) o (n + 1) (if b then n ∷ recorded else recorded) ks) test
             ∙ said_agree ks (sees_right (own_command c) (flat_map own_command ks) (looked_command c) (flat_map looked_command ks) w) (n + 1)
-                (if is_recorded registry (own ds) p recorded c then n ∷ recorded else recorded))
+            (if is_recorded registry (own ds) p recorded c then n ∷ recorded else recorded))
 
       abbrev pub AllSeen : List Text → Type 0
       AllSeen [] = Unit {0}

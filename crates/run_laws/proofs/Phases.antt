@@ -126,16 +126,16 @@ module _ (clock : Clock) (registry : List TypeInfo) (s : SystemEntry) (last : Op
     where
       by : (b : Bool) → 0 ≡ one_if b + tally (hits home) rs
           → (r ∷ rs) ≡ (record r { cells = if b then cells_after registry s o (record { frame = frame; item = item; place = k }) (record { home = home; row = r }) else r.cells })
-              ∷ rows_after registry s o frame item home (k + 1) rs
+          ∷ rows_after registry s o frame item home (k + 1) rs
       by true e = absurd (omega arith)
       by false e = ap (λ qs. r ∷ qs) (rows_whole o item home (k + 1) zero rs (omega arith))
   rows_whole o item home k (suc n) (r ∷ rs) e = by (hits home r) e
     where
       by : (b : Bool) → suc n ≡ one_if b + tally (hits home) rs
           → (if b then row_after registry s o (record { frame = frame; item = item; place = k }) (record { home = home; row = r }) ∷ rows_ran clock registry frame o s item home (k + 1) n rs
-             else r ∷ rows_ran clock registry frame o s item home (k + 1) (suc n) rs)
+          else r ∷ rows_ran clock registry frame o s item home (k + 1) (suc n) rs)
           ≡ (record r { cells = if b then cells_after registry s o (record { frame = frame; item = item; place = k }) (record { home = home; row = r }) else r.cells })
-              ∷ rows_after registry s o frame item home (k + 1) rs
+          ∷ rows_after registry s o frame item home (k + 1) rs
       by true e = ?
       by false e = ap (λ qs. r ∷ qs) (rows_whole o item home (k + 1) (suc n) rs (omega arith))
 
@@ -246,7 +246,7 @@ module _ (clock : Clock) (registry : List TypeInfo) (frame : ℕ) (o p : OtherRo
   blocks_are others now item (b ∷ bs) [] h = absurd h
   blocks_are others now item (b ∷ bs) (c ∷ cs) h =
       subst (λ t. ((if t then visited registry j.system p frame now item c else c) ∷ blocks_after clock registry j.system j.last frame p now (if t then item + 1 else item) cs)
-          ≡ with_items clock registry frame o (turn_items clock registry frame o j now item (b ∷ bs)) (c ∷ cs))
+      ≡ with_items clock registry frame o (turn_items clock registry frame o j now item (b ∷ bs)) (c ∷ cs))
       (visited_agree clock registry j.system j.last frame T (λ t i. i) b c h.0)
       (ap₂ (λ (d : Block) ds. d ∷ ds) (by (is_visited registry clock j.system j.last b)) (blocks_are others now (item_after clock registry j.system j.last item b) bs cs h.1))
     where
@@ -287,24 +287,25 @@ module _ (clock : Clock) (frame : ℕ) (w : World) where
   count_is j now bs fresh =
       let T : ℕ → Type 0 = Touched clock w.registry j.system j.last frame in
       ap₂ (λ v pe. let c : Count = record { visits = v; passing = pe.0; entries = pe.1 } in c)
-        (sym (visits_agree clock w.registry j.system j.last frame T (λ t i. i) w.blocks bs fresh)
-        ∙ visits_are clock w.registry frame (others_in w) (others_in w) j (clock.next now) 0 w.blocks)
-        (ap₂ (λ (n : ℕ) (es : List Entry). (n, es))
-          (sym (passing_agree clock w.registry j.system j.last frame T (λ t i. i) w.blocks bs fresh))
-          (sym (entries_agree clock w.registry j.system j.last frame T (λ t i. i) (others_in w) (others_in (at now bs)) (others_agree T w.blocks bs fresh) w.blocks bs fresh)
-          ∙ sym (entries_whole clock w.registry j.system j.last frame (others_in w) (clock.next now) 0 w.blocks)))
+      (sym (visits_agree clock w.registry j.system j.last frame T (λ t i. i) w.blocks bs fresh)
+      ∙ visits_are clock w.registry frame (others_in w) (others_in w) j (clock.next now) 0 w.blocks)
+      (ap₂ (λ (n : ℕ) (es : List Entry). (n, es))
+      (sym (passing_agree clock w.registry j.system j.last frame T (λ t i. i) w.blocks bs fresh))
+      (sym (entries_agree clock w.registry j.system j.last frame T (λ t i. i) (others_in w) (others_in (at now bs)) (others_agree T w.blocks bs fresh) w.blocks bs fresh)
+      ∙ sym (entries_whole clock w.registry j.system j.last frame (others_in w) (clock.next now) 0 w.blocks)))
 
   fold_is : (js : List Turn) → AreFree w.registry js → (now : ℕ) (bs : List Block) → ((k : Turn) → In k js → Fresh k bs)
       → (world_each clock frame js (at now bs) ≡ at (moment_after clock frame js now) (joined_from clock w.registry frame (others_in w) w.blocks now js bs))
-        × (counts_each clock frame js (at now bs) ≡ joined_counts clock frame w now js)
+      × (counts_each clock frame js (at now bs) ≡ joined_counts clock frame w now js)
   unfolding run
   fold_is [] free now bs fresh = (refl, refl)
   fold_is (j ∷ js) free now bs fresh =
       let rest = fold_is js free.1 (clock.next now) (after j now bs) (λ k i. stays_fresh j k (free.0 k i) now bs (fresh k (inr i))) in
-      let T : ℕ → Type 0 = Touched clock w.registry j.system j.last frame in
-      ( rest.0 ∙ ap (λ cs. at (moment_after clock frame js (clock.next now)) (joined_from clock w.registry frame (others_in w) w.blocks (clock.next now) js cs))
-          (blocks_are clock w.registry frame (others_in w) (others_in (at now bs)) j (others_agree T w.blocks bs (fresh j (inl refl))) (clock.next now) 0 w.blocks bs (fresh j (inl refl)))
-      , ap₂ (λ (c : Count) cs. c ∷ cs) (count_is j now bs (fresh j (inl refl))) rest.1 )
+      let T : ℕ → Type 0 = Touched clock w.registry j.system j.last frame in (
+        rest.0 ∙ ap (λ cs. at (moment_after clock frame js (clock.next now)) (joined_from clock w.registry frame (others_in w) w.blocks (clock.next now) js cs))
+            (blocks_are clock w.registry frame (others_in w) (others_in (at now bs)) j (others_agree T w.blocks bs (fresh j (inl refl))) (clock.next now) 0 w.blocks bs (fresh j (inl refl))),
+        ap₂ (λ (c : Count) cs. c ∷ cs) (count_is j now bs (fresh j (inl refl))) rest.1,
+      )
 
   pub phase_law : (js : List Turn) → AreFree w.registry js
       → (world_each clock frame js w ≡ joined clock frame js w) × (counts_each clock frame js w ≡ joined_counts clock frame w w.moment js)

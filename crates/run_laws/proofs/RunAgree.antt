@@ -52,7 +52,7 @@ module _ (X : ℕ → Type 0) where
       by true rest = h.0
       by false rest = rest
 
-  placed_agree : (bs cs : List Block) → Both (BlockAgree X) bs cs → Both (FoundAgree X) (placed bs) (placed cs)
+  pub placed_agree : (bs cs : List Block) → Both (BlockAgree X) bs cs → Both (FoundAgree X) (placed bs) (placed cs)
   placed_agree [] [] h = tt
   placed_agree [] (c ∷ cs) h = absurd h
   placed_agree (b ∷ bs) [] h = absurd h
@@ -142,15 +142,17 @@ module _ (clock : Clock) (registry : List TypeInfo) (s : SystemEntry) (last : Op
 
     turns_seen : (ws : List Switch) → Sees X (flat_map (λ (w : Switch). own_in w.value) ws) (flat_map (λ (w : Switch). looked_in w.value) ws) → AllSeen X (map Switches ws)
     turns_seen [] h = tt
-    turns_seen (w ∷ ws) h =
-        ( sees_left X (own_in w.value) (flat_map (λ (w : Switch). own_in w.value) ws) (looked_in w.value) (flat_map (λ (w : Switch). looked_in w.value) ws) h
-        , turns_seen ws (sees_right X (own_in w.value) (flat_map (λ (w : Switch). own_in w.value) ws) (looked_in w.value) (flat_map (λ (w : Switch). looked_in w.value) ws) h) )
+    turns_seen (w ∷ ws) h = (
+      sees_left X (own_in w.value) (flat_map (λ (w : Switch). own_in w.value) ws) (looked_in w.value) (flat_map (λ (w : Switch). looked_in w.value) ws) h,
+      turns_seen ws (sees_right X (own_in w.value) (flat_map (λ (w : Switch). own_in w.value) ws) (looked_in w.value) (flat_map (λ (w : Switch). looked_in w.value) ws) h),
+    )
 
-    sets_seen : (as : List Assign) (ts : List Text) → Sees X (flat_map (λ (a : Assign). own_value a.value) as) (flat_map (λ (a : Assign). looked_value a.value) as) → AllSeen X ts → AllSeen X (map Assigns as ++ ts)
+    sets_seen : (xs : List Assign) (ts : List Text) → Sees X (flat_map (λ (a : Assign). own_value a.value) xs) (flat_map (λ (a : Assign). looked_value a.value) xs) → AllSeen X ts → AllSeen X (map Assigns xs ++ ts)
     sets_seen [] ts h rest = rest
-    sets_seen (a ∷ as) ts h rest =
-        ( sees_left X (own_value a.value) (flat_map (λ (a : Assign). own_value a.value) as) (looked_value a.value) (flat_map (λ (a : Assign). looked_value a.value) as) h
-        , sets_seen as ts (sees_right X (own_value a.value) (flat_map (λ (a : Assign). own_value a.value) as) (looked_value a.value) (flat_map (λ (a : Assign). looked_value a.value) as) h) rest )
+    sets_seen (a ∷ xs) ts h rest = (
+      sees_left X (own_value a.value) (flat_map (λ (a : Assign). own_value a.value) xs) (looked_value a.value) (flat_map (λ (a : Assign). looked_value a.value) xs) h,
+      sets_seen xs ts (sees_right X (own_value a.value) (flat_map (λ (a : Assign). own_value a.value) xs) (looked_value a.value) (flat_map (λ (a : Assign). looked_value a.value) xs) h) rest,
+    )
 
     after_sets : Sees X (flat_map (λ (w : Switch). own_in w.value) s.enable ++ flat_map own_command s.command) (flat_map (λ (w : Switch). looked_in w.value) s.enable ++ flat_map looked_command s.command)
     after_sets = sees_right X (flat_map (λ (a : Assign). own_value a.value) s.set) (flat_map (λ (w : Switch). own_in w.value) s.enable ++ flat_map own_command s.command)
@@ -159,9 +161,9 @@ module _ (clock : Clock) (registry : List TypeInfo) (s : SystemEntry) (last : Op
     texts_seen : AllSeen X (texts_of s)
     texts_seen = sets_seen s.set (map Switches s.enable)
         (sees_left X (flat_map (λ (a : Assign). own_value a.value) s.set) (flat_map (λ (w : Switch). own_in w.value) s.enable ++ flat_map own_command s.command)
-          (flat_map (λ (a : Assign). looked_value a.value) s.set) (flat_map (λ (w : Switch). looked_in w.value) s.enable ++ flat_map looked_command s.command) in_texts_all)
+        (flat_map (λ (a : Assign). looked_value a.value) s.set) (flat_map (λ (w : Switch). looked_in w.value) s.enable ++ flat_map looked_command s.command) in_texts_all)
         (turns_seen s.enable (sees_left X (flat_map (λ (w : Switch). own_in w.value) s.enable) (flat_map own_command s.command)
-          (flat_map (λ (w : Switch). looked_in w.value) s.enable) (flat_map looked_command s.command) after_sets))
+        (flat_map (λ (w : Switch). looked_in w.value) s.enable) (flat_map looked_command s.command) after_sets))
 
     commands_seen : Sees X (flat_map own_command s.command) (flat_map looked_command s.command)
     commands_seen = sees_right X (flat_map (λ (w : Switch). own_in w.value) s.enable) (flat_map own_command s.command)
@@ -178,7 +180,7 @@ module _ (clock : Clock) (registry : List TypeInfo) (s : SystemEntry) (last : Op
     matches_agree : (home : Home) (r q : Row) → RowAgree X r q → matches registry s (record { home = home; row = r }) ≡ matches registry s (record { home = home; row = q })
     matches_agree home r q h =
         let off : (t : ℕ) → In t listed → is_off registry t r.cells ≡ is_off registry t q.cells =
-            λ t i. off_same X registry t (named t i) r.cells q.cells h.2 in
+        λ t i. off_same X registry t (named t i) r.cells q.cells h.2 in
         let in_all : (t : ℕ) → In t s.all → In t listed = λ t i. in_left t s.all (s.any ++ (s.none ++ (s.disabled ++ s.absent))) i in
         let in_any : (t : ℕ) → In t s.any → In t listed = λ t i. in_right t s.all (s.any ++ (s.none ++ (s.disabled ++ s.absent))) (in_left t s.any (s.none ++ (s.disabled ++ s.absent)) i) in
         let in_none : (t : ℕ) → In t s.none → In t listed = λ t i. in_right t s.all (s.any ++ (s.none ++ (s.disabled ++ s.absent))) (in_right t s.any (s.none ++ (s.disabled ++ s.absent)) (in_left t s.none (s.disabled ++ s.absent) i)) in
@@ -234,9 +236,10 @@ module _ (clock : Clock) (registry : List TypeInfo) (s : SystemEntry) (last : Op
       rows_agree item home k [] [] h = tt
       rows_agree item home k [] (q ∷ qs) h = absurd h
       rows_agree item home k (r ∷ rs) [] h = absurd h
-      rows_agree item home k (r ∷ rs) (q ∷ qs) h =
-          ( (h.0.0, h.0.1, subst (λ b. CellsAgree X (if hit r then run_on o r else r.cells) (if b then run_on p q else q.cells)) (matches_agree home r q h.0) (by (hit r)))
-          , rows_agree item home (k + 1) rs qs h.1 )
+      rows_agree item home k (r ∷ rs) (q ∷ qs) h = (
+        (h.0.0, h.0.1, subst (λ b. CellsAgree X (if hit r then run_on o r else r.cells) (if b then run_on p q else q.cells)) (matches_agree home r q h.0) (by (hit r))),
+        rows_agree item home (k + 1) rs qs h.1,
+      )
         where
           hit : Row → Bool
           hit u = matches registry s (record { home = home; row = u })
@@ -271,15 +274,18 @@ module _ (clock : Clock) (registry : List TypeInfo) (s : SystemEntry) (last : Op
       blocks_agree now item (b ∷ bs) [] h = absurd h
       blocks_agree now item (b ∷ bs) (c ∷ cs) h =
           subst (λ t. Both (BlockAgree X) (blocks_after clock registry s last frame o now item (b ∷ bs))
-              ((if t then visited registry s p frame now item c else c) ∷ blocks_after clock registry s last frame p now (if t then item + 1 else item) cs))
+          ((if t then visited registry s p frame now item c else c) ∷ blocks_after clock registry s last frame p now (if t then item + 1 else item) cs))
           (visited_agree b c h.0)
           (by (is_visited registry clock s last b), blocks_agree now (item_after clock registry s last item b) bs cs h.1)
         where
           by : (t : Bool) → BlockAgree X (if t then visited registry s o frame now item b else b) (if t then visited registry s p frame now item c else c)
-          by true =
-              ( h.0.0, h.0.1, mark_agree now b.marks c.marks h.0.2
-              , subst (λ home. Both (RowAgree X) (rows_after registry s o frame item b.home 0 b.rows) (rows_after registry s p frame item home 0 c.rows)) h.0.0
-                (rows_agree item b.home 0 b.rows c.rows h.0.3) )
+          by true = (
+            h.0.0,
+            h.0.1,
+            mark_agree now b.marks c.marks h.0.2,
+            subst (λ home. Both (RowAgree X) (rows_after registry s o frame item b.home 0 b.rows) (rows_after registry s p frame item home 0 c.rows)) h.0.0
+                (rows_agree item b.home 0 b.rows c.rows h.0.3),
+          )
           by false = h.0
 
       -- ---- entries
@@ -315,12 +321,12 @@ module _ (clock : Clock) (registry : List TypeInfo) (s : SystemEntry) (last : Op
         where
           by : (t : Bool) → Both MetAgree (met clock registry s last (if t then item + 1 else item) bs) (met clock registry s last (if t then item + 1 else item) cs)
               → Both MetAgree ((if t then met_rows registry s item b.home 0 b.rows else []) ++ met clock registry s last (if t then item + 1 else item) bs)
-                              ((if t then met_rows registry s item c.home 0 c.rows else []) ++ met clock registry s last (if t then item + 1 else item) cs)
+              ((if t then met_rows registry s item c.home 0 c.rows else []) ++ met clock registry s last (if t then item + 1 else item) cs)
           by true rest =
               both_append MetAgree (met_rows registry s item b.home 0 b.rows) (met_rows registry s item c.home 0 c.rows)
-                (met clock registry s last (item + 1) bs) (met clock registry s last (item + 1) cs)
-                (subst (λ home. Both MetAgree (met_rows registry s item b.home 0 b.rows) (met_rows registry s item home 0 c.rows)) h.0.0
-                (met_rows_agree item b.home 0 b.rows c.rows h.0.3)) rest
+              (met clock registry s last (item + 1) bs) (met clock registry s last (item + 1) cs)
+              (subst (λ home. Both MetAgree (met_rows registry s item b.home 0 b.rows) (met_rows registry s item home 0 c.rows)) h.0.0
+              (met_rows_agree item b.home 0 b.rows c.rows h.0.3)) rest
           by false rest = rest
 
       -- what rows that agree say at one spot
@@ -328,8 +334,8 @@ module _ (clock : Clock) (registry : List TypeInfo) (s : SystemEntry) (last : Op
           → said_at registry s o spot (record { home = home; row = r }) ≡ said_at registry s p spot (record { home = home; row = q })
       said_is spot home r q h =
           said_agree X registry spot home r.entity o p others
-            (cells_after registry s o spot (record { home = home; row = r })) (cells_after registry s p spot (record { home = home; row = q }))
-            (cells_agree spot home r q h) s.command commands_seen 0 []
+          (cells_after registry s o spot (record { home = home; row = r })) (cells_after registry s p spot (record { home = home; row = q }))
+          (cells_agree spot home r q h) s.command commands_seen 0 []
           ∙ ap (λ e. sayings_from registry (own_of registry spot home e (cells_after registry s p spot (record { home = home; row = q }))) p 0 [] s.command) h.0
 
       said_same : (m n : Met) → MetAgree m n → entries_at m (said_of registry s o frame m) ≡ entries_at n (said_of registry s p frame n)

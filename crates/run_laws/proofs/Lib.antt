@@ -1,0 +1,11 @@
+pub mod Lists
+pub mod Matches
+pub mod Sorts
+pub mod Arrange
+pub mod Order
+pub mod Clocks
+pub mod Agree
+pub mod RunAgree
+pub mod Phases
+pub mod Examples
+pub mod RunLawful

@@ -1,0 +1,179 @@
+-- The entries of a run stand in the order in which they were recorded: by item, then place, then number. So no two of a
+-- buffer agree in all three.
+use Rattle.std.proofs.Common.{◌≡◌, ℕ, ◌+◌, ◌<◌, ◌≤◌, ◌⊎◌, inl, inr, Bool, true, false, if◌then◌else◌, List, [], ◌∷◌, ◌++◌, map, filter, Option, refl, sym, ap, subst, arith, ⊎_elim}
+use Rattle.std.specs.List.{flat_map}
+use Rattle.ent_types.specs.declared.type_info.TypeInfo.{TypeInfo}
+use Rattle.world_model.specs.Members.{In}
+use Rattle.world_model.specs.Row.{Row}
+use Rattle.world_model.specs.World.{Home, Block, World}
+use Rattle.expr_eval.specs.Values.{OwnRow, OtherRows}
+use Rattle.scenario_record.specs.declared.record.CommandEntry.{CommandEntry}
+use Rattle.scenario_record.specs.declared.record.SystemEntry.{SystemEntry}
+use Rattle.run_model.specs.Clock.{Clock}
+use Rattle.run_model.specs.Query.{matches, is_visited}
+use Rattle.run_model.specs.Job.{own_of, others_in}
+use Rattle.run_model.specs.Commands.{Saying, is_recorded, saying_of, sayings_from}
+use Rattle.run_model.specs.Run.{Met, Entry, Ran, entries_at, cells_after, said_of, met_rows, item_after, met, entries_of, run}
+use Rattle.world_laws.proofs.Members.{in_append, in_map, in_filter}
+use Rattle.run_laws.specs.Entries.{AreDifferent}
+
+module _ {A : Type 0} (R : A → A → Type 0) where
+  -- each element is related to all that come after it
+  abbrev pub Ordered : List A → Type 0
+  Ordered [] = Unit {0}
+  Ordered (x ∷ xs) = ((y : A) → In y xs → R x y) × Ordered xs
+
+  ordered_append : (xs ys : List A) → Ordered xs → Ordered ys → ((x y : A) → In x xs → In y ys → R x y) → Ordered (xs ++ ys)
+  ordered_append [] ys a b cross = b
+  ordered_append (x ∷ xs) ys a b cross = (
+    (λ y i. ⊎_elim (λ j. a.0 y j) (λ j. cross x y (inl refl) j) (in_append y xs ys i)),
+    ordered_append xs ys a.1 b (λ z y i j. cross z y (inr i) j),
+  )
+
+in_flat_map : {A B : Type 0} (f : A → List B) (y : B) (xs : List A) → In y (flat_map f xs) → (x : A) × In x xs × In y (f x)
+in_flat_map f y [] h = absurd h
+in_flat_map f y (x ∷ xs) h = by (in_append y (f x) (flat_map f xs) h)
+  where
+    by : In y (f x) ⊎ In y (flat_map f xs) → (z : _) × In z (x ∷ xs) × In y (f z)
+    by (inl i) = (x, inl refl, i)
+    by (inr i) = let (z, j, k) = in_flat_map f y xs i in (z, inr j, k)
+
+-- ---- what one row says
+
+abbrev Lower : Saying → Saying → Type 0
+Lower c d = c.number < d.number
+
+module _ (registry : List TypeInfo) (own : OwnRow) (others : OtherRows) where
+  numbers_above : (n : ℕ) (recorded : List ℕ) (cs : List CommandEntry) (d : Saying) → In d (sayings_from registry own others n recorded cs) → n ≤ d.number
+  numbers_above n recorded [] d h = absurd h
+  numbers_above n recorded (c ∷ cs) d h = by (is_recorded registry own others recorded c) h
+    where
+      by : (b : Bool) → In d ((if b then saying_of registry own others n c ∷ [] else []) ++ sayings_from registry own others (n + 1) (if b then n ∷ recorded else recorded) cs) → n ≤ d.number
+      by true (inl e) = subst (λ (x : Saying). n ≤ x.number) (sym e) (omega arith)
+      by true (inr i) = let a = numbers_above (n + 1) (n ∷ recorded) cs d i in omega arith
+      by false i = let a = numbers_above (n + 1) recorded cs d i in omega arith
+
+  numbers_rise : (n : ℕ) (recorded : List ℕ) (cs : List CommandEntry) → Ordered Lower (sayings_from registry own others n recorded cs)
+  numbers_rise n recorded [] = tt
+  numbers_rise n recorded (c ∷ cs) = by (is_recorded registry own others recorded c)
+    where
+      by : (b : Bool) → Ordered Lower ((if b then saying_of registry own others n c ∷ [] else []) ++ sayings_from registry own others (n + 1) (if b then n ∷ recorded else recorded) cs)
+      by true = ((λ d i. (let a = numbers_above (n + 1) (n ∷ recorded) cs d i in omega arith)), numbers_rise (n + 1) (n ∷ recorded) cs)
+      by false = numbers_rise (n + 1) recorded cs
+
+-- ---- the rows that are met
+
+abbrev Before : ℕ → ℕ → ℕ → ℕ → Type 0
+Before i k j l = (i < j) ⊎ ((i ≡ j) × (k < l))
+
+abbrev MetFirst : Met → Met → Type 0
+MetFirst m n = Before m.item m.place n.item n.place
+
+module _ (registry : List TypeInfo) (s : SystemEntry) where
+  abbrev IsBehind : ℕ → ℕ → Met → Type 0
+  IsBehind item k m = (m.item ≡ item) × (k ≤ m.place)
+
+  rows_behind : (item : ℕ) (home : Home) (k : ℕ) (rs : List Row) (m : Met) → In m (met_rows registry s item home k rs) → IsBehind item k m
+  rows_behind item home k [] m h = absurd h
+  rows_behind item home k (r ∷ rs) m h = by (matches registry s (record { home = home; row = r })) h
+    where
+      later : In m (met_rows registry s item home (k + 1) rs) → IsBehind item k m
+      later i = let a = rows_behind item home (k + 1) rs m i in let b = a.1 in (a.0, omega arith)
+
+      by : (b : Bool) → In m ((if b then record { item = item; place = k; at = record { home = home; row = r } } ∷ [] else []) ++ met_rows registry s item home (k + 1) rs) → IsBehind item k m
+      by true (inl e) = subst (IsBehind item k) (sym e) (refl, omega arith)
+      by true (inr i) = later i
+      by false i = later i
+
+  rows_ordered : (item : ℕ) (home : Home) (k : ℕ) (rs : List Row) → Ordered MetFirst (met_rows registry s item home k rs)
+  rows_ordered item home k [] = tt
+  rows_ordered item home k (r ∷ rs) = by (matches registry s (record { home = home; row = r }))
+    where
+      by : (b : Bool) → Ordered MetFirst ((if b then record { item = item; place = k; at = record { home = home; row = r } } ∷ [] else []) ++ met_rows registry s item home (k + 1) rs)
+      by true = ((λ m i. (let a = rows_behind item home (k + 1) rs m i in let e = a.0 in let f = a.1 in inr (sym e, omega arith))), rows_ordered item home (k + 1) rs)
+      by false = rows_ordered item home (k + 1) rs
+
+module _ (clock : Clock) (registry : List TypeInfo) (s : SystemEntry) (last : Option ℕ) where
+  met_behind : (item : ℕ) (bs : List Block) (m : Met) → In m (met clock registry s last item bs) → item ≤ m.item
+  met_behind item [] m h = absurd h
+  met_behind item (b ∷ bs) m h = by (is_visited registry clock s last b) h
+    where
+      by : (t : Bool) → In m ((if t then met_rows registry s item b.home 0 b.rows else []) ++ met clock registry s last (if t then item + 1 else item) bs) → item ≤ m.item
+      by true i = ⊎_elim
+          (λ j. (let a = rows_behind registry s item b.home 0 b.rows m j in let e = a.0 in omega arith))
+          (λ j. (let a = met_behind (item + 1) bs m j in omega arith))
+          (in_append m (met_rows registry s item b.home 0 b.rows) (met clock registry s last (item + 1) bs) i)
+      by false i = met_behind item bs m i
+
+  met_ordered : (item : ℕ) (bs : List Block) → Ordered MetFirst (met clock registry s last item bs)
+  met_ordered item [] = tt
+  met_ordered item (b ∷ bs) = by (is_visited registry clock s last b)
+    where
+      by : (t : Bool) → Ordered MetFirst ((if t then met_rows registry s item b.home 0 b.rows else []) ++ met clock registry s last (if t then item + 1 else item) bs)
+      by true = ordered_append MetFirst (met_rows registry s item b.home 0 b.rows) (met clock registry s last (item + 1) bs)
+          (rows_ordered registry s item b.home 0 b.rows) (met_ordered (item + 1) bs)
+          (λ m n i j. (let a = rows_behind registry s item b.home 0 b.rows m i in let e = a.0 in let c = met_behind (item + 1) bs n j in inl (omega arith)))
+      by false = met_ordered item bs
+
+-- ---- entries
+
+abbrev EntryFirst : Entry → Entry → Type 0
+EntryFirst x y = Before x.item x.place y.item y.place ⊎ ((x.item ≡ y.item) × (x.place ≡ y.place) × (x.said.number < y.said.number))
+
+at_ordered : (m : Met) (ds : List Saying) → Ordered Lower ds → Ordered EntryFirst (entries_at m ds)
+at_ordered m [] h = tt
+at_ordered m (d ∷ ds) h = (
+  (λ y i. (let (c, j, e) = in_map (λ said. (let x : Entry = record { item = m.item; place = m.place; said = said } in x)) y ds i in
+      subst (λ z. EntryFirst (record { item = m.item; place = m.place; said = d }) z) (sym e) (inr (refl, refl, h.0 c j)))),
+  at_ordered m ds h.1,
+)
+
+abbrev IsAt : Met → Entry → Type 0
+IsAt m x = (x.item ≡ m.item) × (x.place ≡ m.place)
+
+entries_are_at : (m : Met) (ds : List Saying) (x : Entry) → In x (entries_at m ds) → IsAt m x
+entries_are_at m ds x i =
+    let (c, j, e) = in_map (λ said. (let x : Entry = record { item = m.item; place = m.place; said = said } in x)) x ds i in
+    subst (IsAt m) (sym e) (refl, refl)
+
+flat_ordered : (says : Met → List Saying) → ((m : Met) → Ordered Lower (says m)) → (ms : List Met) → Ordered MetFirst ms
+    → Ordered EntryFirst (flat_map (λ m. entries_at m (says m)) ms)
+flat_ordered says each [] h = tt
+flat_ordered says each (m ∷ ms) h =
+    ordered_append EntryFirst (entries_at m (says m)) (flat_map (λ m. entries_at m (says m)) ms) (at_ordered m (says m) (each m)) (flat_ordered says each ms h.1) cross
+  where
+    cross : (x y : Entry) → In x (entries_at m (says m)) → In y (flat_map (λ m. entries_at m (says m)) ms) → EntryFirst x y
+    cross x y i j =
+        let (n, k, l) = in_flat_map (λ m. entries_at m (says m)) y ms j in
+        let a = entries_are_at m (says m) x i in let b = entries_are_at n (says n) y l in
+        let e = a.0 in let f = a.1 in let g = b.0 in let o = b.1 in
+        inl (⊎_elim (λ less. inl (omega arith)) (λ (both : (m.item ≡ n.item) × (m.place < n.place)). (let p = both.0 in let q = both.1 in inr (omega arith, omega arith))) (h.0 n k))
+
+never : (u v : Entry) → EntryFirst u v → u.item ≡ v.item → u.place ≡ v.place → u.said.number ≡ v.said.number → ⊥
+never u v (inl (inl less)) p q n = omega arith
+never u v (inl (inr both)) p q n = let c = both.1 in omega arith
+never u v (inr both) p q n = let c = both.2 in omega arith
+
+pub ordered_differ : (es : List Entry) → Ordered EntryFirst es → AreDifferent es
+ordered_differ [] h x y i j p q n = absurd i
+ordered_differ (z ∷ zs) h x y (inl e) (inl f) p q n = cc
+ordered_differ (z ∷ zs) h x y (inl e) (inr j) p q n = absurd (never z y (h.0 y j) (subst (λ (u : Entry). u.item ≡ y.item) e p) (subst (λ (u : Entry). u.place ≡ y.place) e q) (subst (λ (u : Entry). u.said.number ≡ y.said.number) e n))
+ordered_differ (z ∷ zs) h x y (inr i) (inl f) p q n = absurd (never z x (h.0 x i) (sym (subst (λ (u : Entry). x.item ≡ u.item) f p)) (sym (subst (λ (u : Entry). x.place ≡ u.place) f q)) (sym (subst (λ (u : Entry). x.said.number ≡ u.said.number) f n)))
+ordered_differ (z ∷ zs) h x y (inr i) (inr j) p q n = ordered_differ zs h.1 x y i j p q n
+
+pub buffers_differ : (clock : Clock) (s : SystemEntry) (last : Option ℕ) (frame : ℕ) (w : World) (goes : Entry → Bool)
+    → AreDifferent (filter goes (run clock s last frame w).entries)
+unfolding run
+buffers_differ clock s last frame w goes x y i j =
+    ordered_differ es (flat_ordered (said_of w.registry s others frame) (λ m. rises m) (met clock w.registry s last 0 w.blocks) (met_ordered clock w.registry s last 0 w.blocks))
+    x y (in_filter goes x es i) (in_filter goes y es j)
+  where
+    others : OtherRows
+    others = others_in w
+
+    es : List Entry
+    es = entries_of clock w.registry s last frame others w.blocks
+
+    rises : (m : Met) → Ordered Lower (said_of w.registry s others frame m)
+    rises m = numbers_rise w.registry (own_of w.registry (record { frame = frame; item = m.item; place = m.place }) m.at.home m.at.row.entity
+        (cells_after w.registry s others (record { frame = frame; item = m.item; place = m.place }) m.at)) others 0 [] s.command

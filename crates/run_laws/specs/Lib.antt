@@ -1,0 +1,4 @@
+pub mod Agree
+pub mod Entries
+pub mod Versions
+pub mod Suits
