@@ -153,7 +153,7 @@ module _ (now : ℕ) (e : Entity) where
           let here = tally_rows e b.home b.rows in
           let some = found_counts (is_row e) r b.rows got in
           let first : option_or (option_map make (Some r)) (found e bs) ≡ Some x =
-              ap (λ o. option_or o (found e bs)) (sym (found_rows e b.home b.rows ∙ ap (option_map make) got)) ∙ is in
+          ap (λ o. option_or o (found e bs)) (sym (found_rows e b.home b.rows ∙ ap (option_map make) got)) ∙ is in
           let same : make r ≡ x = cc in
           follow (perm_after (placed bs) (placed_perm b.home (without_perm e r b.rows (omega arith) got)))
           (perm_is (ap (λ y. y ∷ (placed_in b.home (without_row e b.rows) ++ placed bs)) same

@@ -5,3 +5,6 @@ pub mod Entering
 pub mod Leaving
 pub mod Writing
 pub mod Sound
+pub mod Types
+pub mod Elements
+pub mod Decided

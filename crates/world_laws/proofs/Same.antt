@@ -39,10 +39,10 @@ pub part_is : (a b : PartOf Value) → same_part a b ≡ true → a ≡ b
 part_is a b same =
     let parts = and_parts (nat_eq a.type_id b.type_id) (pointwise same_value a.values b.values) same in
     ap₂ (λ t vs. let made : PartOf Value = record { type_id = t; values = vs } in made)
-        (eqb-true a.type_id b.type_id parts.0) (list_is same_value value_is a.values b.values parts.1)
+    (eqb-true a.type_id b.type_id parts.0) (list_is same_value value_is a.values b.values parts.1)
 
 pub home_is : (a b : Home) → same_home a b ≡ true → a ≡ b
 home_is a b same =
     let parts = and_parts (pointwise nat_eq a.types b.types) (pointwise same_part a.shared b.shared) same in
     ap₂ (λ ts ps. let made : Home = record { types = ts; shared = ps } in made)
-        (list_is nat_eq eqb-true a.types b.types parts.0) (list_is same_part part_is a.shared b.shared parts.1)
+    (list_is nat_eq eqb-true a.types b.types parts.0) (list_is same_part part_is a.shared b.shared parts.1)

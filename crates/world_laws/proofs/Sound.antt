@@ -42,7 +42,7 @@ left_tally : (i now : ℕ) (e : Entity) (x : Found) (w : World) → IsSound w �
 left_tally i now e x w sound is =
     perm_tally (has_index i) (leave_perm now e x w.blocks (one_at_most w sound e) is)
     ∙ ap (λ (d : Entity). one_if (nat_eq i d.index) + tally (has_index i) (placed (leave now e w.blocks)))
-        (sym (entity_is e x.row.entity (find_passes (is_of e) x (placed w.blocks) is)))
+    (sym (entity_is e x.row.entity (find_passes (is_of e) x (placed w.blocks) is)))
 
 given_tally : (i : ℕ) (e : Entity) (free : List Entity) → tally (is_free_at i) (give_id e free) ≤ one_if (nat_eq i e.index) + tally (is_free_at i) free
 given_tally i e free = step (nat_eq e.version 4294967295)
@@ -63,8 +63,8 @@ fresh_fits i m t fits = step (nat_eq i m) (nat_lt i m) refl refl fits
 pub written_sound : (types : List ℕ) (row : Row) (w : World) → IsSound w → IsSound (written types row w)
 written_sound types row w sound i =
     let same : tally (has_index i) (placed (rewrite w.moment types row w.blocks)) ≡ tally (has_index i) (placed w.blocks) =
-        ap (tally (has_index i)) (rewrite_placed w.moment types row w.blocks)
-        ∙ tally_map (has_index i) (put_in row) (λ x. put_same row (λ d. nat_eq i d.index) x) (placed w.blocks) in
+    ap (tally (has_index i)) (rewrite_placed w.moment types row w.blocks)
+    ∙ tally_map (has_index i) (put_in row) (λ x. put_same row (λ d. nat_eq i d.index) x) (placed w.blocks) in
     let s = sound i in
     omega arith
 

@@ -1,11 +1,11 @@
 -- Which worlds are lawful, and what the calls ask of an operation.
 use Rattle.std.specs.Prelude.{◌≡◌, ℕ, ◌+◌, ◌≤◌, Bool, true, false, not, nat_eq, nat_lt, List, length, map, filter}
 use Rattle.ent_types.specs.declared.entity.Entity.{Entity}
-use Rattle.world_model.specs.Later.{MOST_ENTITIES, MOST_INDEXES}
+use Rattle.ent_types.specs.declared.limits.TheConstants.{MOST_ENTITIES, MOST_INDEXES}
 use Rattle.ent_types.specs.declared.type_info.TypeInfo.{TypeInfo}
 use Rattle.ent_types.specs.declared.value.Value.{Value}
 use Rattle.ent_types.specs.Registries.{IsLawfulRegistry}
-use Rattle.world_model.specs.Later.{is_shared_at, is_buffer_at, is_enableable_at}
+use Rattle.ent_types.specs.TypeLookups.{is_shared_at, is_buffer_at, is_enableable_at}
 use Rattle.ent_types.specs.Versions.{IsVersion}
 use Rattle.world_model.specs.Members.{In, one_if, tally, IsRising, AreDistinct}
 use Rattle.world_model.specs.Part.{PartOf, part_type}

@@ -1,5 +1,4 @@
 pub mod Part
-pub mod Later
 pub mod Row
 pub mod World
 pub mod Found

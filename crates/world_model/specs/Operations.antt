@@ -2,14 +2,14 @@
 use Rattle.std.specs.Prelude.{ℕ, ◌/◌, Bool, true, false, not, ◌&&◌, ◌||◌, if◌then◌else◌, nat_eq, nat_le, List, [], ◌∷◌, ◌++◌, length, map, filter, unwrap_or, Option, Some, None, option_map}
 use Rattle.std.specs.List.{list_any}
 use Rattle.ent_types.specs.declared.entity.Entity.{Entity}
-use Rattle.world_model.specs.Later.{PREFAB}
-use Rattle.world_model.specs.Later.{MOST_ELEMENTS}
-use Rattle.world_model.specs.Later.{Skip}
-use Rattle.world_model.specs.Later.{NoEntity, NoComponent, TooLarge, Full, NotEnableable, TooLong}
+use Rattle.ent_types.specs.declared.entity.TheConstants.TypeId.{PREFAB}
+use Rattle.ent_types.specs.declared.limits.TheConstants.{MOST_ELEMENTS}
+use Rattle.ent_types.specs.declared.skip.Skip.{Skip}
+use Rattle.ent_types.specs.declared.skip.Skip.TheVariants.{NoEntity, NoComponent, TooLarge, Full, NotEnableable, TooLong}
 use Rattle.ent_types.specs.declared.type_info.TypeInfo.{TypeInfo}
 use Rattle.ent_types.specs.declared.value.Value.{Value}
 use Rattle.ent_types.specs.Fitting.{null_entity}
-use Rattle.world_model.specs.Later.{fields_at, is_shared_at, is_cleanup_at, is_enableable_at}
+use Rattle.ent_types.specs.TypeLookups.{fields_at, is_shared_at, is_cleanup_at, is_enableable_at}
 use Rattle.ent_types.specs.TypeSets.{has_type, with_type, without_type}
 use Rattle.world_model.specs.Part.{PartOf, part_type, part_map, same_part, with_typed, by_type}
 use Rattle.world_model.specs.Row.{Cell, Row, cell_type, cell_of}

@@ -1,12 +1,12 @@
 -- Scenes: worlds that are built from nodes and moved into another world.
 use Rattle.std.specs.Prelude.{ℕ, pos, ◌+◌, ◌*◌, true, false, List, [], ◌∷◌, ◌++◌, map, find, fold, length, slice_set, unwrap_or, Option, Some, None, option_map}
 use Rattle.ent_types.specs.declared.entity.Entity.{Entity}
-use Rattle.world_model.specs.Later.{SCENE_TAG}
+use Rattle.ent_types.specs.declared.entity.TheConstants.TypeId.{SCENE_TAG}
 use Rattle.ent_types.specs.declared.type_info.TypeInfo.{TypeInfo}
 use Rattle.ent_types.specs.declared.value.Value.{Value}
 use Rattle.ent_types.specs.declared.value.Value.TheVariants.{Int, Ref}
 use Rattle.ent_types.specs.Fitting.{null_entity}
-use Rattle.world_model.specs.Later.{fields_at}
+use Rattle.ent_types.specs.TypeLookups.{fields_at}
 use Rattle.world_model.specs.Part.{PartOf, part_map, same_entity}
 use Rattle.world_model.specs.Row.{Row, Cell}
 use Rattle.world_model.specs.World.{Block, World, empty_world}
