@@ -1,5 +1,6 @@
 -- Where the columns of a block stand, in bytes from the block's start.
 use Rattle.std.specs.Prelude.{ℕ, ◌+◌, ◌*◌, List, [], ◌∷◌}
+use Rattle.chunk_layout.specs.declared.columns.TheConstants.{ID_PLACE}
 use Rattle.chunk_layout.specs.Capacity.{up64, column_bytes, capacity_of}
 
 -- what a layout tells: how many rows a block holds, and the place of each column
@@ -12,9 +13,9 @@ abbrev pub places_from : ℕ → ℕ → List ℕ → List ℕ
 places_from start n [] = []
 places_from start n (size ∷ sizes) = start ∷ places_from (start + column_bytes n size) n sizes
 
--- the places of the columns of n rows: the id column stands at byte 64, and they follow it
+-- the places of the columns of n rows: the id column begins at ID_PLACE, and they follow it
 abbrev pub places_of : ℕ → List ℕ → List ℕ
-places_of n sizes = places_from (64 + up64 (8 * n)) n sizes
+places_of n sizes = places_from (ID_PLACE + up64 (8 * n)) n sizes
 
 -- the layout of a block whose types have these column sizes
 abbrev pub layout_of : List ℕ → Layout

@@ -1,13 +1,15 @@
-//! The capacity rule: the greatest number of rows, up to 128, whose columns fit into a block.
-
+//! The capacity rule: the greatest number of rows whose columns fit into a block.
 ghost use Rattle.std.specs.Prelude.{◌≡◌, ℕ, ◌*◌, ◌≤◌, ◌^◌, nat_le, All};
 ghost use Rattle.chunk_layout.specs.Capacity.{up64, column_bytes, block_bytes, capacity_of, IsCapacity};
 
-/// The most rows that a block holds (Unity's number).
+/// The greatest number of rows of a block (Unity's number).
 pub const MAX_ROWS: u32 = 128;
 
-/// The bytes of a block beside its header of 64 bytes.
-const COLUMN_ROOM: u32 = 16_320;
+/// The greatest number of bytes that a row takes in one column.
+pub const MAX_SIZE: u32 = 512;
+
+/// The bytes of a block without its header of 64 bytes.
+pub const COLUMN_ROOM: u32 = 16_320;
 
 /// A number of bytes, rounded up to a multiple of 64.
 pub fn up64(bytes: u32) -> u32
@@ -21,19 +23,19 @@ pub fn up64(bytes: u32) -> u32
 
 /// The bytes of one column for a number of rows.
 pub fn column_bytes(size: u32, rows: u32) -> u32
-    requires small { size ≤ 512 }
-    requires within { rows ≤ 128 }
+    requires small { size ≤ MAX_SIZE }
+    requires within { rows ≤ MAX_ROWS }
     ensures value { result ≡ column_bytes rows size }
     ensures bound { result ≤ 65536 }
 {
     up64(size * rows)
 }
 
-/// Says whether the id column and the columns of these sizes fit into a block, for a number of rows.
+/// `true` if the id column and the columns of these sizes fit into a block, for a number of rows.
 fn fit(sizes: &[u32], rows: u32) -> bool
-    requires small { All (λ size. size ≤ 512) sizes.now }
-    requires within { rows ≤ 128 }
-    ensures { result ≡ nat_le (block_bytes sizes.now rows) 16320 }
+    requires small { All (λ size. size ≤ MAX_SIZE) sizes.now }
+    requires within { rows ≤ MAX_ROWS }
+    ensures { result ≡ nat_le (block_bytes sizes.now rows) COLUMN_ROOM }
 {
     let mut bytes = up64(8 * rows);
     for size in sizes {
@@ -45,15 +47,15 @@ fn fit(sizes: &[u32], rows: u32) -> bool
     true
 }
 
-/// The greatest number of rows, up to 128, for which the columns of these sizes fit into a block; 0 where not even one
-/// row fits. The sizes are those that a row takes in each column, in bytes, at most 512. Takes no memory.
+/// Returns the greatest number of rows, up to `MAX_ROWS`, for which the columns of these sizes fit into a block; 0 if
+/// not even one row fits. The sizes are the bytes that a row takes in each column. It takes no memory.
 ///
 /// ```text
 /// capacity(&[8, 4])  // 128
 /// capacity(&[512])   // 31
 /// ```
 pub fn capacity(sizes: &[u32]) -> u32
-    requires { All (λ size. size ≤ 512) sizes.now }
+    requires { All (λ size. size ≤ MAX_SIZE) sizes.now }
     ensures value { result ≡ capacity_of sizes.now }
     ensures meaning { IsCapacity sizes.now result }
 {
@@ -69,19 +71,4 @@ pub fn capacity(sizes: &[u32]) -> u32
         }
     }
     fitting
-}
-
-#[cfg(test)]
-mod tests {
-    use super::*;
-
-    // Computed by hand from the capacity rule.
-    #[test]
-    fn counts_rows(rt: HostRuntime) {
-        assert_eq!(rt; capacity(&[]), 128);
-        assert_eq!(rt; capacity(&[8, 4]), 128);
-        assert_eq!(rt; capacity(&[512]), 31);
-        assert_eq!(rt; capacity(&[512; 32]), 0);
-        assert_eq!(rt; capacity(&[0; 300]), 128);
-    }
 }

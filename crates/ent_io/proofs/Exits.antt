@@ -2,8 +2,8 @@
 -- need no answer; these are for functions in which a tactic stops before it reads them.
 use Rattle.std.proofs.Common.{◌≡◌, ℕ, List, Option, Result, Ok, Err, subst}
 use Rattle.std.specs.Prelude.{IsErr}
-use Rattle.ent_io.specs.declared.sink.SinkEnd.{SinkEnd}
-use Rattle.ent_io.specs.declared.sink.SinkEnd.TheVariants.{Failed, Memory as SinkMemory}
+use Rattle.ent_io.specs.declared.writing.SinkEnd.{SinkEnd}
+use Rattle.ent_io.specs.declared.writing.SinkEnd.TheVariants.{Failed, Memory as SinkMemory}
 use Rattle.ent_io.specs.declared.end.TextEnd.{TextEnd}
 use Rattle.ent_io.specs.declared.end.TextEnd.TheVariants.{WriteFault as TextFault, Memory as TextMemory}
 use Rattle.ent_io.specs.declared.end.End.{End}

@@ -7,8 +7,8 @@ use Rattle.ent_io.specs.declared.end.TextEnd.{TextEnd}
 use Rattle.ent_io.specs.declared.end.TextEnd.TheVariants.{WriteFault as TextFault, Memory as TextMemory}
 use Rattle.ent_io.specs.declared.end.Status.{Status}
 use Rattle.ent_io.specs.declared.end.Status.TheVariants.{ReadFault as StatusReadFault, WriteFault as StatusWriteFault, Memory as StatusMemory}
-use Rattle.ent_io.specs.declared.sink.SinkEnd.{SinkEnd}
-use Rattle.ent_io.specs.declared.sink.SinkEnd.TheVariants.{Failed, Memory as SinkMemory}
+use Rattle.ent_io.specs.declared.writing.SinkEnd.{SinkEnd}
+use Rattle.ent_io.specs.declared.writing.SinkEnd.TheVariants.{Failed, Memory as SinkMemory}
 use Rattle.ent_io.specs.declared.reading.ReadEnd.{ReadEnd}
 use Rattle.ent_io.specs.declared.reading.ReadEnd.TheVariants.{Absent as ReadAbsent, Fault, TooLong, Memory as ReadMemory}
 use Rattle.ent_io.specs.declared.reading.Missing.{Missing}

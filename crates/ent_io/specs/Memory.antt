@@ -4,8 +4,8 @@ use Rattle.std.specs.declared.alloc.Global.{Global}
 use Rattle.std.specs.List.{list_any}
 use Rattle.std.specs.Map.{lookup}
 use Rattle.std.specs.Str.{bytes_eq}
-use Rattle.ent_io.specs.declared.store.StoreFault.{StoreFault}
-use Rattle.ent_io.specs.declared.store.StoreFault.TheVariants.{Absent, Failed}
+use Rattle.ent_io.specs.declared.reading.StoreFault.{StoreFault}
+use Rattle.ent_io.specs.declared.reading.StoreFault.TheVariants.{Absent, Failed}
 
 -- the numbers of the calls that are to fail, how many calls were made, and how many failed
 pub record CallCounts : Type 0 where

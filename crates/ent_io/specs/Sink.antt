@@ -2,8 +2,8 @@
 use Rattle.std.specs.Prelude.{◌≡◌, ℕ, ◌<◌, ◌≤◌, List, length, take, Option, Result, Ok, Err}
 use Rattle.ent_io.specs.Count.{Rises}
 use Rattle.ent_io.specs.Text.{appended}
-use Rattle.ent_io.specs.declared.sink.SinkEnd.{SinkEnd}
-use Rattle.ent_io.specs.declared.sink.SinkEnd.TheVariants.{Failed, Memory}
+use Rattle.ent_io.specs.declared.writing.SinkEnd.{SinkEnd}
+use Rattle.ent_io.specs.declared.writing.SinkEnd.TheVariants.{Failed, Memory}
 use Rattle.ent_io.specs.declared.writing.WriteEnd.{WriteEnd}
 
 -- At Ok the first n bytes of the piece were appended, and at least one where the piece has any. An error leaves

@@ -2,8 +2,8 @@
 use Rattle.std.specs.Prelude.{◌≡◌, ℕ, ◌<◌, ◌≤◌, nat_le, Bool, true, false, List, length, take, drop, if◌then◌else◌, Option, None, Some, IfSome, IsSomeAnd, Result, Ok, Err, Vec}
 use Rattle.std.specs.declared.alloc.Global.{Global}
 use Rattle.ent_io.specs.Count.{Rises}
-use Rattle.ent_io.specs.declared.store.StoreFault.{StoreFault}
-use Rattle.ent_io.specs.declared.store.StoreFault.TheVariants.{Absent, Failed, Memory}
+use Rattle.ent_io.specs.declared.reading.StoreFault.{StoreFault}
+use Rattle.ent_io.specs.declared.reading.StoreFault.TheVariants.{Absent, Failed, Memory}
 use Rattle.ent_io.specs.declared.reading.ReadEnd.{ReadEnd}
 use Rattle.ent_io.specs.declared.reading.ReadEnd.TheVariants.{Absent as ReadAbsent, Fault, TooLong, Memory as ReadMemory}
 use Rattle.ent_io.specs.declared.reading.Missing.{Missing}

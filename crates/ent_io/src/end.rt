@@ -1,4 +1,4 @@
-// How a call ends: for the user, and below the top call.
+//! How a call ends: for the user, and below the top call.
 ghost use Rattle.std.specs.Prelude.{◌≡◌};
 ghost use Rattle.ent_io.specs.End.{end_of, text_end_of, status_of};
 
@@ -10,7 +10,7 @@ use std::alloc::{AllocError, AllocFailed};
 pub enum Status {
     /// The text was written to its end.
     Done,
-    /// The words aren't a command.
+    /// The arguments aren't a command.
     BadWords,
     /// The input was refused, and the text says why.
     Refused,
@@ -20,7 +20,7 @@ pub enum Status {
     ReadFault,
     /// The sink failed.
     WriteFault,
-    /// Want of memory.
+    /// Memory ran out.
     Memory,
 }
 
@@ -31,7 +31,7 @@ pub enum End {
     ReadFault,
     /// The sink failed, and its count of faults rose.
     WriteFault,
-    /// Want of memory alone.
+    /// Memory ran out, and nothing else failed.
     Memory,
 }
 
@@ -40,7 +40,7 @@ pub enum End {
 pub enum TextEnd {
     /// The sink failed, and its count of faults rose.
     WriteFault,
-    /// Want of memory alone.
+    /// Memory ran out, and nothing else failed.
     Memory,
 }
 

@@ -1,4 +1,4 @@
-// The files of the current folder. No clause says what a real file holds: this is a trusted edge, a few lines long.
+//! The files of the current folder. No clause says what a real file holds: this is a trusted edge, a few lines long.
 ghost use Rattle.std.specs.Prelude.{◌≡◌, None};
 ghost use Rattle.std.specs.Io.{ReadsAtMost};
 ghost use Rattle.ent_io.specs.Count.{Rises};
@@ -11,9 +11,9 @@ use std::io;
 use std::io::{ErrorKind, Read, Seek, SeekFrom};
 use std::marker::Model;
 
-/// The files of the current folder. It tells none of them. It keeps the file that it last read open, so that a file
-/// is read chunk by chunk in one pass. A file or folder that is missing is `Absent`; one that can't be read, as a
-/// folder in a file's place, is `Failed`.
+/// The files of the current folder. Contracts don't see their contents. The file that was last read stays open, so that
+/// a file is read chunk by chunk in one pass. A missing file or folder is `Absent`; one that can't be read, such as a
+/// folder, is `Failed`.
 #[derive(Drop)]
 pub struct FolderStore<'a, R: Files + Drop> {
     rt: &'a R,
@@ -22,7 +22,7 @@ pub struct FolderStore<'a, R: Files + Drop> {
     faults: u64,
 }
 
-// A file and how far it was read.
+/// A file and how far it was read.
 #[derive(Drop)]
 struct Opened<F: Read + Seek + Drop> {
     name: String,
@@ -52,7 +52,7 @@ impl<'a, R: Files + Drop> FolderStore<'a, R> {
         }
     }
 
-    // After an error no file is open, so the next call opens it anew.
+    /// After an error no file is open, so the next call opens it again.
     fn read_open(&mut self, name: &str, from: u64, buf: &mut [u8]) -> io::Result<usize>
         ensures within { ReadsAtMost result buf.new }
         ensures faults { self.new ≡ self.old }
@@ -101,7 +101,7 @@ impl<'a, R: Files + Drop> Store for FolderStore<'a, R> {
     }
 }
 
-// What an error of the system is to a store. A failure is counted.
+/// The fault of a store for an error of the system. A failure is counted.
 fn fault_of(kind: ErrorKind, faults: &mut u64) -> StoreFault
     ensures { FaultCause result faults.old faults.new }
 {

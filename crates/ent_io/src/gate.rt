@@ -1,6 +1,6 @@
-// Points that threads pass, so that a test can hold them there.
+//! Points that threads pass, so that a test can hold them there.
 
-/// Is told of each point that a thread reaches, and may hold the thread there. No result depends on it.
+/// Receives each point that a thread reaches, and may hold the thread there. No result depends on it.
 ///
 /// The worker `w` reaches point `w`, from 0 to 63, before it first draws in a phase. A background builder reaches
 /// 100 before it builds, and the main thread 101 before a phase. The worker that drew item `k` of a phase reaches

@@ -1,14 +1,43 @@
-// Reading a whole file.
-ghost use Rattle.std.specs.Prelude.{◌≡◌, ◌<◌, ◌≤◌, length};
-ghost use Rattle.ent_io.specs.Files.{told_file};
-ghost use Rattle.ent_io.specs.Store.{IsFrontOf, ReadsMore, ReadsWhole, ReadCauses};
+//! Stores, which have files, and reading a whole file.
+ghost use Rattle.std.specs.Prelude.{◌≡◌, ◌<◌, ◌≤◌, Option, List, ℕ, length, IfOk};
+ghost use Rattle.ent_io.specs.Files.{Files, told_file};
+ghost use Rattle.ent_io.specs.Store.{IsFrontOf, ReadsFile, ReadsMore, ReadsWhole, ReadCauses, StoreCauses};
 ghost use Rattle.ent_io.specs.End.{missing_of};
 
-use crate::{End, Store, StoreFault};
+use crate::End;
 use std::alloc::{AllocError, Global};
 
-// How many bytes one call of the store is asked for, at most.
+/// The greatest number of bytes that one call of the store is asked for.
 const CHUNK: usize = 65536;
+
+/// Why a call of a store gave no bytes.
+#[derive(Clone, Copy, Debug, PartialEq, Eq)]
+pub enum StoreFault {
+    /// There is no file of this name.
+    Absent,
+    /// The store failed, and its count of faults rose.
+    Failed,
+    /// Memory ran out, and nothing else failed.
+    Memory,
+}
+
+/// Files by name. Its meaning is an optional function from names to files, which never changes, and a count of faults,
+/// which never falls. A store without that function may return anything, and still raises its count when it fails.
+pub trait Store {
+    /// The files, if contracts see them.
+    ghost files: { Self → Option Files };
+
+    /// How often the store has failed. The count stays at 2 ^ 64 - 1 once it is there.
+    ghost faults: { Self → ℕ };
+
+    /// Reads bytes of the file from a place on into the front of the buffer, and returns their number. It is 0 only if
+    /// the buffer is empty or the place is at or past the file's end.
+    fn read(&mut self, name: &str, from: u64, buf: &mut [u8]) -> Result<usize, StoreFault>
+        ensures within { IfOk result (λ n. n ≤ length buf.new) }
+        ensures answer { ReadsFile (told_file (files self.old) name.now) from buf.new result }
+        ensures files { files self.new ≡ files self.old }
+        ensures causes { StoreCauses result (faults self.old) (faults self.new) };
+}
 
 /// Why a whole read gave no bytes.
 #[derive(Clone, Copy, Debug, PartialEq, Eq)]
@@ -19,11 +48,11 @@ pub enum ReadEnd {
     Fault,
     /// The file has more bytes than the limit.
     TooLong,
-    /// Want of memory alone.
+    /// Memory ran out, and nothing else failed.
     Memory,
 }
 
-/// Why a file can't be had, where nothing failed.
+/// Why a file can't be read although nothing failed.
 #[derive(Clone, Copy, Debug, PartialEq, Eq)]
 pub enum Missing {
     /// There is no file of this name.
@@ -33,7 +62,7 @@ pub enum Missing {
 }
 
 impl ReadEnd {
-    /// Tells a file that can't be had from an end of the call: `let missing = end.missing()?;`.
+    /// Separates a file that can't be read from an end of the call: `let missing = end.missing()?;`.
     pub fn missing(self) -> Result<Missing, End>
         ensures { result ≡ missing_of self }
     {
@@ -56,12 +85,12 @@ impl From<AllocError> for ReadEnd {
     }
 }
 
-/// Reads a file of at most `limit` bytes. Beside the chunk that is being read it never keeps more than `limit`
+/// Reads a file of at most `limit` bytes. In addition to the chunk that is being read it never keeps more than `limit`
 /// bytes.
 ///
-/// `Fault` comes only where the store's count of faults rose in this call. Where the store tells its files,
-/// `Absent` comes exactly where there is no such file, and `TooLong` exactly where the file has more than `limit`
-/// bytes, unless the answer is `Fault` or `Memory`.
+/// `Fault` is returned only if the store's count of faults rose in this call. If contracts see the files, `Absent` is
+/// returned if and only if there is no such file, and `TooLong` if and only if the file has more than `limit` bytes,
+/// unless the result is `Fault` or `Memory`.
 pub fn read_whole<S: Store>(
     alloc: Global,
     store: &mut S,
@@ -78,8 +107,8 @@ pub fn read_whole<S: Store>(
     Ok(bytes)
 }
 
-// Appends the next bytes of the file, as many as one call gives, and answers whether there were any. It asks for one
-// byte more than there is room for, which shows that the file is too long.
+/// Appends the next bytes of the file, as many as one call gives, and returns whether there were any. It asks for one
+/// byte more than there is room for, which shows that the file is too long.
 fn read_more<S: Store>(
     store: &mut S,
     name: &str,

@@ -1,4 +1,4 @@
-// Standard output. No clause says what a terminal shows: this is a trusted edge, a few lines long.
+//! Standard output. No clause says what a terminal shows: this is a trusted edge, a few lines long.
 ghost use Rattle.std.specs.Prelude.{◌≡◌, [], None, IfOk, IfErr, OnOk};
 ghost use Rattle.ent_io.specs.Count.{Rises};
 ghost use Rattle.ent_io.specs.Sink.{SinkCauses};
@@ -8,18 +8,18 @@ use std::alloc::Global;
 use std::io::{BufWriter, Write};
 use std::marker::Model;
 
-// How many bytes are gathered before they are handed to the system.
+/// The number of bytes that are gathered before they are handed to the system.
 const BUFFER: usize = 65536;
 
-/// A writer as standard output, `StdSink::new(alloc, io::writer(&rt))`, through a buffer of 64 KiB. It doesn't tell
-/// its text. Call `finish` at the end: what is left in the buffer may fail to be written too.
+/// A writer as standard output, `StdSink::new(alloc, io::writer(&rt))`, through a buffer of 64 KiB. Contracts don't see
+/// its text. Call `finish` at the end: writing the rest of the buffer can fail too.
 #[derive(Drop)]
 pub struct StdSink<W: Write + Drop> {
     out: BufWriter<W>,
     faults: u64,
 }
 
-// Contracts see its count of faults, and what it has gathered and not yet handed on.
+// Contracts see its count of faults, and the bytes that it has gathered and not yet handed on.
 impl<W: Write + Drop> Model for StdSink<W> {
     ghost use Rattle.std.specs.Io.Buffered.{writer_buffer};
     ghost use Rattle.ent_io.specs.Sink.{Gathers};
@@ -30,7 +30,7 @@ impl<W: Write + Drop> Model for StdSink<W> {
 }
 
 impl<W: Write + Drop> StdSink<W> {
-    /// Only want of memory keeps it from being made.
+    /// Makes a sink. The only error is `Memory`.
     pub fn new(alloc: Global, out: W) -> Result<Self, SinkEnd>
         ensures made { IfOk result (λ sink. sink ≡ record { faults = 0; gathered = [] }) }
         ensures memory { IfErr result (λ cause. cause ≡ SinkEnd.Memory) }
@@ -41,7 +41,7 @@ impl<W: Write + Drop> StdSink<W> {
         }
     }
 
-    /// Writes what is left in the buffer. The only error is `Failed`.
+    /// Writes the rest of the buffer. The only error is `Failed`.
     pub fn finish(&mut self) -> Result<(), SinkEnd>
         ensures causes { SinkCauses result self.old.faults self.new.faults }
         ensures handed_on { OnOk result (self.new.gathered ≡ []) }
@@ -53,7 +53,7 @@ impl<W: Write + Drop> StdSink<W> {
         }
     }
 
-    // Counts a failure.
+    /// Counts a failure.
     fn fail(&mut self) -> SinkEnd
         ensures cause { result ≡ SinkEnd.Failed }
         ensures faults { Rises self.old.faults self.new.faults }

@@ -1,6 +1,6 @@
 use Rattle.std.proofs.Common.{◌≡◌, drop}
 use Rattle.ent_io.specs.Memory.{file_in, named_files}
-use Rattle.ent_io.proofs.memory_store.find_file.Given as goal
+use Rattle.ent_io.proofs.in_memory.find_file.Given as goal
 
 -- what is left has the file that all of them have
 abbrev pub invariant-loop-key : goal.invariant-loop-key
