@@ -1,5 +1,5 @@
 -- A text sees no types but those that it names: where the rows and the lookups agree on these, it gives the same values.
-use Rattle.std.proofs.Common.{◌≡◌, ℕ, ℤ, pos, ◌+◌, ◌%◌, inl, nat_eq, Bool, true, false, not, ◌&&◌, ◌||◌, if◌then◌else◌, List, [], ◌∷◌, ◌++◌, length, map, Option, Some, None, option_map, refl, sym, ap, ap₂, ◌∙◌, subst, eqb-true, unwrap_or, slice_get, slice_set}
+use Rattle.std.proofs.Common.{◌≡◌, ℕ, ℤ, pos, ◌+◌, ◌%◌, inl, nat_eq, Bool, true, false, not, ◌&&◌, ◌||◌, if◌then◌else◌, List, [], ◌∷◌, ◌++◌, length, map, Option, Some, option_map, refl, sym, ap, ap₂, ◌∙◌, subst, eqb-true, unwrap_or, slice_get, slice_set}
 use Rattle.std.specs.Prelude.{option_and_then}
 use Rattle.std.specs.Option.{option_or}
 use Rattle.std.specs.Int.{int_wrap, w32}
@@ -8,14 +8,12 @@ use Rattle.ent_types.specs.declared.entity.Entity.{Entity}
 use Rattle.ent_types.specs.declared.entity.TypeId.{TypeId}
 use Rattle.ent_types.specs.declared.kinds.FieldKind.{FieldKind}
 use Rattle.ent_types.specs.declared.type_info.TypeInfo.{TypeInfo}
-use Rattle.ent_types.specs.declared.value.Value.{Value}
 use Rattle.ent_types.specs.declared.value.Value.TheVariants.{Int, Ref}
 use Rattle.ent_types.specs.Fitting.{fit}
 use Rattle.ent_types.specs.TypeLookups.{fields_at, field_kind_at, is_enableable_at}
 use Rattle.ent_types.specs.TypeSets.{has_type}
-use Rattle.world_model.specs.Members.{In}
-use Rattle.world_model.specs.Part.{PartOf, at_type}
-use Rattle.world_model.specs.Row.{Cell, cell_type}
+use Rattle.world_model.specs.Part.{PartOf}
+use Rattle.world_model.specs.Row.{Cell}
 use Rattle.world_model.specs.World.{Home}
 use Rattle.world_model.specs.Found.{cell_at, part_at}
 use Rattle.world_model.specs.Operations.{Act, Destroy, Add, Remove, Set, SetShared, SetEnabled, Instantiate, with_values, switched}
@@ -32,16 +30,14 @@ use Rattle.expr_trees.specs.declared.tree.Variable.TheVariants.{Frame, Chunk, Ro
 use Rattle.expr_trees.specs.declared.tree.ValueExpr.{ValueExpr}
 use Rattle.expr_trees.specs.declared.tree.ValueExpr.TheVariants as values
 use Rattle.expr_trees.specs.declared.tree.PartExpr.{PartExpr}
-use Rattle.expr_trees.specs.declared.tree.Assign.{Assign}
-use Rattle.expr_trees.specs.declared.tree.Switch.{Switch}
 use Rattle.expr_trees.specs.declared.tree.CommandText.{CommandText}
 use Rattle.expr_trees.specs.declared.tree.CommandText.TheVariants as texts
 use Rattle.scenario_record.specs.declared.record.CommandEntry.{CommandEntry}
 use Rattle.run_model.specs.Query.{is_off}
 use Rattle.run_model.specs.Job.{Spot, own_of, fitted, Text, Assigns, Switches, after_text, after_texts}
 use Rattle.run_model.specs.Touched.{own_in_ref, own_step, own_in, looked_step, looked_in, in_value, in_part, in_act, in_command}
-use Rattle.run_model.specs.Commands.{Target, Live, Placeholder, Given, Known, MadeBy, Deed, Creates, Does, Saying, target_of, given_ref, given_of, givens_from, part_given, deed_of, placeholders_in, is_recorded, saying_of, sayings_from}
-use Rattle.run_laws.specs.Agree.{Both, CellAgree, CellsAgree, OthersAgree}
+use Rattle.run_model.specs.Commands.{Live, Given, Known, Creates, Does, Saying, target_of, given_ref, given_of, givens_from, part_given, deed_of, placeholders_in, is_recorded, saying_of, sayings_from}
+use Rattle.run_laws.specs.Agree.{CellAgree, CellsAgree, OthersAgree}
 use Rattle.run_laws.proofs.Lists.{both_map, Within, within_left, within_right}
 
 abbrev no_ref : RefExpr → List ℕ
@@ -77,6 +73,10 @@ module _ (X : ℕ → Type 0) where
 
   pub sees_right : (a b c d : List ℕ) → Sees (a ++ b) (c ++ d) → Sees b d
   sees_right a b c d h = (within_right a b X h.0, within_right c d X h.1)
+
+  abbrev pub AllSeen : List Text → Type 0
+  AllSeen [] = Unit {0}
+  AllSeen (t ∷ ts) = Sees (own_text t) (looked_text t) × AllSeen ts
 
   pub cell_same : (t : ℕ) → X t → (cs ds : List Cell) → CellsAgree X cs ds → cell_at t cs ≡ cell_at t ds
   cell_same t x [] [] h = refl
@@ -277,10 +277,6 @@ module _ (X : ℕ → Type 0) where
             (ap (λ b. sayings_from registry (own cs) o (n + 1) (if b then n ∷ recorded else recorded) ks) test
             ∙ said_agree ks (sees_right (own_command c) (flat_map own_command ks) (looked_command c) (flat_map looked_command ks) w) (n + 1)
             (if is_recorded registry (own ds) p recorded c then n ∷ recorded else recorded))
-
-      abbrev pub AllSeen : List Text → Type 0
-      AllSeen [] = Unit {0}
-      AllSeen (t ∷ ts) = Sees (own_text t) (looked_text t) × AllSeen ts
 
       pub texts_agree : (ts : List Text) → AllSeen ts → (cs ds : List Cell) → CellsAgree X cs ds
           → CellsAgree X (after_texts registry o spot home me ts cs) (after_texts registry p spot home me ts ds)

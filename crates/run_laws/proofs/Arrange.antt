@@ -1,14 +1,14 @@
 -- What std sorts by the order of playback is arranged.
-use Rattle.std.proofs.Common.{◌≡◌, ℕ, ℤ, zero, suc, ◌+◌, ◌<◌, ◌≤◌, ◌⊎◌, inl, inr, nat_lt, nat_eq, Bool, true, false, ◌&&◌, ◌||◌, List, [], ◌∷◌, length, get_or, set, refl, sym, ap, ap₂, ◌∙◌, subst, arith, add-one}
+use Rattle.std.proofs.Common.{◌≡◌, ℕ, zero, suc, ◌<◌, ◌⊎◌, inl, inr, nat_lt, nat_eq, Bool, true, false, ◌&&◌, ◌||◌, List, [], ◌∷◌, length, get_or, set, refl, sym, ap, ap₂, ◌∙◌, subst, arith, add-one}
 use Rattle.std.specs.Prelude.{int_lt}
 use Rattle.std.specs.Ordering.{int_eq}
 use Rattle.std.specs.List.{swap as swap_places}
 use Rattle.std.specs.List.Sorted.{IsPermutation, IsSortedBy}
 use Rattle.std.proofs.lemmas.List.Sorted.{IsPermutation-keeps}
 use Rattle.std.proofs.lemmas.Bool.Decides.{Decides-int_eq, nat_tests}
-use Rattle.world_laws.proofs.Perms.{Perm, empty, keep, swap, follow, perm_self, perm_back}
+use Rattle.world_laws.proofs.Perms.{Perm, keep, swap, follow, perm_self, perm_back}
 use Rattle.run_model.specs.Run.{Entry}
-use Rattle.run_model.specs.Buffers.{before, sorted_by, arranged}
+use Rattle.run_model.specs.Buffers.{before, arranged}
 use Rattle.run_laws.specs.Entries.{AreDifferent}
 use Rattle.run_laws.proofs.Sorts.{Sorted, sorted_stays, sort_perm, key_later, key_self, key_same, false_when}
 

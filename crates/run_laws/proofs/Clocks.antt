@@ -1,15 +1,14 @@
 -- Versions stand for moments in a run: a run over versions gives the versions of the run over moments.
-use Rattle.std.proofs.Common.{◌≡◌, ℕ, ◌+◌, ◌<◌, ◌≤◌, inl, inr, Bool, true, false, not, ◌&&◌, ◌||◌, if◌then◌else◌, List, [], ◌∷◌, ◌++◌, map, find, Option, Some, None, option_map, refl, sym, ap, ap₂, ◌∙◌, subst, nat_lt, ltb-true, lt-ltb}
+use Rattle.std.proofs.Common.{◌≡◌, ℕ, ◌+◌, ◌<◌, inl, inr, Bool, true, false, not, ◌&&◌, ◌||◌, if◌then◌else◌, List, [], ◌∷◌, ◌++◌, map, find, Option, Some, None, option_map, refl, sym, ap, ap₂, ◌∙◌, subst, nat_lt, ltb-true, lt-ltb}
 use Rattle.std.specs.List.{list_any, flat_map}
 use Rattle.std.specs.Bool.{Decides}
 use Rattle.ent_types.specs.declared.type_info.TypeInfo.{TypeInfo}
 use Rattle.ent_types.specs.TypeSets.{has_type}
-use Rattle.ent_types.specs.Versions.{version_of, next_version, is_later, IsVersion, IsMoment}
+use Rattle.ent_types.specs.Versions.{version_of, is_later, IsVersion, IsMoment}
 use Rattle.ent_types.proofs.VersionLemmas.{version_of-next, is_later-moments}
 use Rattle.world_model.specs.Members.{In, tally, one_if}
-use Rattle.world_model.specs.Row.{Row}
-use Rattle.world_model.specs.World.{Home, Mark, Block, World}
-use Rattle.world_model.specs.Found.{Found, placed_in, placed, is_of, found}
+use Rattle.world_model.specs.World.{Mark, Block, World}
+use Rattle.world_model.specs.Found.{Found, placed_in, placed, is_of}
 use Rattle.world_model.specs.Write.{marked}
 use Rattle.world_model.specs.Versions.{mark_versions, block_versions, world_versions}
 use Rattle.expr_eval.specs.Values.{OtherRows}
@@ -18,7 +17,7 @@ use Rattle.scenario_record.specs.declared.record.SystemEntry.{SystemEntry}
 use Rattle.run_model.specs.Clock.{Clock, moments, versions}
 use Rattle.run_model.specs.Query.{is_empty, has_shared, matches, passes, is_fresh, is_visited}
 use Rattle.run_model.specs.Job.{writes, others_in}
-use Rattle.run_model.specs.Run.{Met, Entry, Ran, entries_at, rows_after, visited, said_of, met_rows, item_after, met, blocks_after, entries_of, run}
+use Rattle.run_model.specs.Run.{Entry, Ran, entries_at, rows_after, visited, said_of, met_rows, item_after, met, blocks_after, entries_of, run}
 use Rattle.run_laws.specs.Versions.{ran_versions, IsLast, HasMoments}
 
 -- two clocks, of which the second counts with what a function gives for the moments of the first

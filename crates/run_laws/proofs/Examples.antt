@@ -1,14 +1,11 @@
 -- Worked cases, each by computing. A definition that is changed by mistake breaks one of them.
-use Rattle.std.proofs.Common.{◌≡◌, ℕ, ℤ, pos, negsuc, ◌+◌, Bool, true, false, List, [], ◌∷◌, map, Option, Some, None, refl}
+use Rattle.std.proofs.Common.{◌≡◌, ℕ, ℤ, pos, negsuc, Bool, true, false, List, [], ◌∷◌, map, Some, None, refl}
 use Rattle.ent_types.specs.declared.entity.Entity.{Entity}
-use Rattle.ent_types.specs.declared.entity.TypeId.{TypeId}
-use Rattle.ent_types.specs.declared.kinds.Kind.{Kind}
 use Rattle.ent_types.specs.declared.kinds.Kind.TheVariants.{Plain, Tag, Shared}
 use Rattle.ent_types.specs.declared.kinds.FieldKind.TheVariants.{I32, I64, Ref as RefKind}
 use Rattle.ent_types.specs.declared.point.Point.{Point}
-use Rattle.ent_types.specs.declared.point.Point.TheVariants.{EndInitialization, BeginSimulation, EndSimulation}
+use Rattle.ent_types.specs.declared.point.Point.TheVariants.{BeginSimulation, EndSimulation}
 use Rattle.ent_types.specs.declared.skip.Skip.TheVariants.{NoEntity}
-use Rattle.ent_types.specs.declared.type_info.FieldInfo.{FieldInfo}
 use Rattle.ent_types.specs.declared.type_info.TypeInfo.{TypeInfo}
 use Rattle.ent_types.specs.declared.value.Part.{Part}
 use Rattle.ent_types.specs.declared.value.Value.{Value}
@@ -16,27 +13,25 @@ use Rattle.ent_types.specs.declared.value.Value.TheVariants.{Int, Ref}
 use Rattle.ent_types.specs.Fitting.{null_entity}
 use Rattle.world_model.specs.Part.{PartOf}
 use Rattle.world_model.specs.Row.{Cell, Row}
-use Rattle.world_model.specs.World.{Home, Mark, Block, World}
+use Rattle.world_model.specs.World.{Block, World}
 use Rattle.world_model.specs.Found.{Found}
 use Rattle.world_model.specs.Enter.{enter}
 use Rattle.world_model.specs.Leave.{leave}
 use Rattle.world_model.specs.Write.{rewrite}
-use Rattle.world_model.specs.Operations.{Act, Destroy, Set, operate}
-use Rattle.expr_eval.specs.Values.{OtherRows}
+use Rattle.world_model.specs.Operations.{Destroy, Set, operate}
 use Rattle.expr_trees.specs.declared.tree.Assign.{Assign}
 use Rattle.expr_trees.specs.declared.tree.RefExpr.TheVariants as refs
 use Rattle.expr_trees.specs.declared.tree.ValueExpr.TheVariants as values
 use Rattle.scenario_record.specs.declared.record.SystemEntry.{SystemEntry}
 use Rattle.run_model.specs.declared.lines.NoteLine.TheVariants.{CommandSkip, Unplayed, KeyShared}
 use Rattle.run_model.specs.Clock.{moments}
-use Rattle.run_model.specs.Query.{matches, passes, has_shared, is_fresh, is_visited}
-use Rattle.run_model.specs.Job.{no_row, others_in, writes}
-use Rattle.run_model.specs.Commands.{Target, Live, Placeholder, Given, Known, MadeBy, Deed, Creates, Does, Saying}
-use Rattle.run_model.specs.Run.{Entry, Ran, cells_after, run}
-use Rattle.run_model.specs.Buffers.{SharedKey, before, arranged, shared_key}
-use Rattle.run_model.specs.Playback.{Playing, Note, played}
-use Rattle.run_model.specs.Tasks.{runs_in, no_others}
-use Rattle.run_model.specs.Frames.{Buffer, State, Course, Goes, Stops, Line, Noted, buffers_of, point_played, end_of, End, Finished, AtSharedKey}
+use Rattle.run_model.specs.Query.{matches, passes, has_shared, is_visited}
+use Rattle.run_model.specs.Commands.{Live, Placeholder, MadeBy, Deed, Creates, Does}
+use Rattle.run_model.specs.Run.{Entry, run}
+use Rattle.run_model.specs.Buffers.{arranged, shared_key}
+use Rattle.run_model.specs.Playback.{played}
+use Rattle.run_model.specs.Tasks.{runs_in}
+use Rattle.run_model.specs.Frames.{Buffer, State, Stops, Noted, buffers_of, point_played, end_of, Finished}
 use Rattle.run_model.specs.Phases.{conflicts, phases}
 
 -- ---- types: 0 Disabled, 1 Prefab, 2 SceneTag, 3 P(v:i32), 4 the enableable tag Act, 5 Link(to:ref), 6 the shared Team(id:i64)

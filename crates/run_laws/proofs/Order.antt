@@ -1,6 +1,6 @@
 -- The entries of a run stand in the order in which they were recorded: by item, then place, then number. So no two of a
 -- buffer agree in all three.
-use Rattle.std.proofs.Common.{◌≡◌, ℕ, ◌+◌, ◌<◌, ◌≤◌, ◌⊎◌, inl, inr, Bool, true, false, if◌then◌else◌, List, [], ◌∷◌, ◌++◌, map, filter, Option, refl, sym, ap, subst, arith, ⊎_elim}
+use Rattle.std.proofs.Common.{◌≡◌, ℕ, ◌+◌, ◌<◌, ◌≤◌, ◌⊎◌, inl, inr, Bool, true, false, if◌then◌else◌, List, [], ◌∷◌, ◌++◌, filter, Option, refl, sym, subst, arith, ⊎_elim}
 use Rattle.std.specs.List.{flat_map}
 use Rattle.ent_types.specs.declared.type_info.TypeInfo.{TypeInfo}
 use Rattle.world_model.specs.Members.{In}
@@ -13,7 +13,7 @@ use Rattle.run_model.specs.Clock.{Clock}
 use Rattle.run_model.specs.Query.{matches, is_visited}
 use Rattle.run_model.specs.Job.{own_of, others_in}
 use Rattle.run_model.specs.Commands.{Saying, is_recorded, saying_of, sayings_from}
-use Rattle.run_model.specs.Run.{Met, Entry, Ran, entries_at, cells_after, said_of, met_rows, item_after, met, entries_of, run}
+use Rattle.run_model.specs.Run.{Met, Entry, entries_at, cells_after, said_of, met_rows, met, entries_of, run}
 use Rattle.world_laws.proofs.Members.{in_append, in_map, in_filter}
 use Rattle.run_laws.specs.Entries.{AreDifferent}
 
@@ -32,11 +32,11 @@ module _ {A : Type 0} (R : A → A → Type 0) where
 
 in_flat_map : {A B : Type 0} (f : A → List B) (y : B) (xs : List A) → In y (flat_map f xs) → (x : A) × In x xs × In y (f x)
 in_flat_map f y [] h = absurd h
-in_flat_map f y (x ∷ xs) h = by (in_append y (f x) (flat_map f xs) h)
+in_flat_map {A} f y (x ∷ xs) h = by (in_append y (f x) (flat_map f xs) h) (in_flat_map f y xs)
   where
-    by : In y (f x) ⊎ In y (flat_map f xs) → (z : _) × In z (x ∷ xs) × In y (f z)
-    by (inl i) = (x, inl refl, i)
-    by (inr i) = let (z, j, k) = in_flat_map f y xs i in (z, inr j, k)
+    by : In y (f x) ⊎ In y (flat_map f xs) → (In y (flat_map f xs) → (z : A) × In z xs × In y (f z)) → (z : A) × In z (x ∷ xs) × In y (f z)
+    by (inl i) rest = (x, inl refl, i)
+    by (inr i) rest = let (z, j, k) = rest i in (z, inr j, k)
 
 -- ---- what one row says
 
@@ -46,20 +46,22 @@ Lower c d = c.number < d.number
 module _ (registry : List TypeInfo) (own : OwnRow) (others : OtherRows) where
   numbers_above : (n : ℕ) (recorded : List ℕ) (cs : List CommandEntry) (d : Saying) → In d (sayings_from registry own others n recorded cs) → n ≤ d.number
   numbers_above n recorded [] d h = absurd h
-  numbers_above n recorded (c ∷ cs) d h = by (is_recorded registry own others recorded c) h
+  numbers_above n recorded (c ∷ cs) d h = by (is_recorded registry own others recorded c) h (λ also. numbers_above (n + 1) also cs d)
     where
-      by : (b : Bool) → In d ((if b then saying_of registry own others n c ∷ [] else []) ++ sayings_from registry own others (n + 1) (if b then n ∷ recorded else recorded) cs) → n ≤ d.number
-      by true (inl e) = subst (λ (x : Saying). n ≤ x.number) (sym e) (omega arith)
-      by true (inr i) = let a = numbers_above (n + 1) (n ∷ recorded) cs d i in omega arith
-      by false i = let a = numbers_above (n + 1) recorded cs d i in omega arith
+      by : (b : Bool) → In d ((if b then saying_of registry own others n c ∷ [] else []) ++ sayings_from registry own others (n + 1) (if b then n ∷ recorded else recorded) cs)
+          → ((also : List ℕ) → In d (sayings_from registry own others (n + 1) also cs) → n + 1 ≤ d.number) → n ≤ d.number
+      by true (inl e) rest = subst (λ (x : Saying). n ≤ x.number) (sym e) (omega arith)
+      by true (inr i) rest = let a = rest (n ∷ recorded) i in omega arith
+      by false i rest = let a = rest recorded i in omega arith
 
   numbers_rise : (n : ℕ) (recorded : List ℕ) (cs : List CommandEntry) → Ordered Lower (sayings_from registry own others n recorded cs)
   numbers_rise n recorded [] = tt
-  numbers_rise n recorded (c ∷ cs) = by (is_recorded registry own others recorded c)
+  numbers_rise n recorded (c ∷ cs) = by (is_recorded registry own others recorded c) (λ also. numbers_rise (n + 1) also cs)
     where
-      by : (b : Bool) → Ordered Lower ((if b then saying_of registry own others n c ∷ [] else []) ++ sayings_from registry own others (n + 1) (if b then n ∷ recorded else recorded) cs)
-      by true = ((λ d i. (let a = numbers_above (n + 1) (n ∷ recorded) cs d i in omega arith)), numbers_rise (n + 1) (n ∷ recorded) cs)
-      by false = numbers_rise (n + 1) recorded cs
+      by : (b : Bool) → ((also : List ℕ) → Ordered Lower (sayings_from registry own others (n + 1) also cs))
+          → Ordered Lower ((if b then saying_of registry own others n c ∷ [] else []) ++ sayings_from registry own others (n + 1) (if b then n ∷ recorded else recorded) cs)
+      by true rest = ((λ d i. (let a = numbers_above (n + 1) (n ∷ recorded) cs d i in omega arith)), rest (n ∷ recorded))
+      by false rest = rest recorded
 
 -- ---- the rows that are met
 
@@ -75,45 +77,49 @@ module _ (registry : List TypeInfo) (s : SystemEntry) where
 
   rows_behind : (item : ℕ) (home : Home) (k : ℕ) (rs : List Row) (m : Met) → In m (met_rows registry s item home k rs) → IsBehind item k m
   rows_behind item home k [] m h = absurd h
-  rows_behind item home k (r ∷ rs) m h = by (matches registry s (record { home = home; row = r })) h
+  rows_behind item home k (r ∷ rs) m h = by (matches registry s (record { home = home; row = r })) h (rows_behind item home (k + 1) rs m)
     where
-      later : In m (met_rows registry s item home (k + 1) rs) → IsBehind item k m
-      later i = let a = rows_behind item home (k + 1) rs m i in let b = a.1 in (a.0, omega arith)
+      later : IsBehind item (k + 1) m → IsBehind item k m
+      later a = let b = a.1 in (a.0, omega arith)
 
-      by : (b : Bool) → In m ((if b then record { item = item; place = k; at = record { home = home; row = r } } ∷ [] else []) ++ met_rows registry s item home (k + 1) rs) → IsBehind item k m
-      by true (inl e) = subst (IsBehind item k) (sym e) (refl, omega arith)
-      by true (inr i) = later i
-      by false i = later i
+      by : (b : Bool) → In m ((if b then record { item = item; place = k; at = record { home = home; row = r } } ∷ [] else []) ++ met_rows registry s item home (k + 1) rs)
+          → (In m (met_rows registry s item home (k + 1) rs) → IsBehind item (k + 1) m) → IsBehind item k m
+      by true (inl e) rest = subst (IsBehind item k) (sym e) (refl, omega arith)
+      by true (inr i) rest = later (rest i)
+      by false i rest = later (rest i)
 
   rows_ordered : (item : ℕ) (home : Home) (k : ℕ) (rs : List Row) → Ordered MetFirst (met_rows registry s item home k rs)
   rows_ordered item home k [] = tt
-  rows_ordered item home k (r ∷ rs) = by (matches registry s (record { home = home; row = r }))
+  rows_ordered item home k (r ∷ rs) = by (matches registry s (record { home = home; row = r })) (rows_ordered item home (k + 1) rs)
     where
-      by : (b : Bool) → Ordered MetFirst ((if b then record { item = item; place = k; at = record { home = home; row = r } } ∷ [] else []) ++ met_rows registry s item home (k + 1) rs)
-      by true = ((λ m i. (let a = rows_behind item home (k + 1) rs m i in let e = a.0 in let f = a.1 in inr (sym e, omega arith))), rows_ordered item home (k + 1) rs)
-      by false = rows_ordered item home (k + 1) rs
+      by : (b : Bool) → Ordered MetFirst (met_rows registry s item home (k + 1) rs)
+          → Ordered MetFirst ((if b then record { item = item; place = k; at = record { home = home; row = r } } ∷ [] else []) ++ met_rows registry s item home (k + 1) rs)
+      by true rest = ((λ m i. (let a = rows_behind item home (k + 1) rs m i in let e = a.0 in let f = a.1 in inr (sym e, omega arith))), rest)
+      by false rest = rest
 
 module _ (clock : Clock) (registry : List TypeInfo) (s : SystemEntry) (last : Option ℕ) where
   met_behind : (item : ℕ) (bs : List Block) (m : Met) → In m (met clock registry s last item bs) → item ≤ m.item
   met_behind item [] m h = absurd h
-  met_behind item (b ∷ bs) m h = by (is_visited registry clock s last b) h
+  met_behind item (b ∷ bs) m h = by (is_visited registry clock s last b) h (λ next. met_behind next bs m)
     where
-      by : (t : Bool) → In m ((if t then met_rows registry s item b.home 0 b.rows else []) ++ met clock registry s last (if t then item + 1 else item) bs) → item ≤ m.item
-      by true i = ⊎_elim
+      by : (t : Bool) → In m ((if t then met_rows registry s item b.home 0 b.rows else []) ++ met clock registry s last (if t then item + 1 else item) bs)
+          → ((next : ℕ) → In m (met clock registry s last next bs) → next ≤ m.item) → item ≤ m.item
+      by true i rest = ⊎_elim
           (λ j. (let a = rows_behind registry s item b.home 0 b.rows m j in let e = a.0 in omega arith))
-          (λ j. (let a = met_behind (item + 1) bs m j in omega arith))
+          (λ j. (let a = rest (item + 1) j in omega arith))
           (in_append m (met_rows registry s item b.home 0 b.rows) (met clock registry s last (item + 1) bs) i)
-      by false i = met_behind item bs m i
+      by false i rest = rest item i
 
   met_ordered : (item : ℕ) (bs : List Block) → Ordered MetFirst (met clock registry s last item bs)
   met_ordered item [] = tt
-  met_ordered item (b ∷ bs) = by (is_visited registry clock s last b)
+  met_ordered item (b ∷ bs) = by (is_visited registry clock s last b) (λ next. met_ordered next bs)
     where
-      by : (t : Bool) → Ordered MetFirst ((if t then met_rows registry s item b.home 0 b.rows else []) ++ met clock registry s last (if t then item + 1 else item) bs)
-      by true = ordered_append MetFirst (met_rows registry s item b.home 0 b.rows) (met clock registry s last (item + 1) bs)
-          (rows_ordered registry s item b.home 0 b.rows) (met_ordered (item + 1) bs)
+      by : (t : Bool) → ((next : ℕ) → Ordered MetFirst (met clock registry s last next bs))
+          → Ordered MetFirst ((if t then met_rows registry s item b.home 0 b.rows else []) ++ met clock registry s last (if t then item + 1 else item) bs)
+      by true rest = ordered_append MetFirst (met_rows registry s item b.home 0 b.rows) (met clock registry s last (item + 1) bs)
+          (rows_ordered registry s item b.home 0 b.rows) (rest (item + 1))
           (λ m n i j. (let a = rows_behind registry s item b.home 0 b.rows m i in let e = a.0 in let c = met_behind (item + 1) bs n j in inl (omega arith)))
-      by false = met_ordered item bs
+      by false rest = rest item
 
 -- ---- entries
 

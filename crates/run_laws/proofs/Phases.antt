@@ -1,7 +1,7 @@
 -- The law of phases: systems of which none writes what a later one touches make the same world and the same entries one
 -- after another as from the first world, joined.
-use Rattle.std.proofs.Common.{◌≡◌, ℕ, zero, suc, ◌+◌, ◌≤◌, ◌⊎◌, inl, inr, nat_eq, Bool, true, false, not, ◌||◌, if◌then◌else◌, List, [], ◌∷◌, ◌++◌, map, length, take, Option, Some, None, is_some, refl, sym, ap, ap₂, ◌∙◌, subst, arith, eqb-true, slice_set, append_assoc, append-nil}
-use Rattle.std.specs.List.{list_any, flat_map}
+use Rattle.std.proofs.Common.{◌≡◌, ℕ, zero, suc, ◌+◌, inl, inr, nat_eq, Bool, true, false, not, ◌||◌, if◌then◌else◌, List, [], ◌∷◌, ◌++◌, map, length, take, Option, Some, None, is_some, refl, sym, ap, ap₂, ◌∙◌, subst, arith, eqb-true, slice_set, append_assoc}
+use Rattle.std.specs.List.{flat_map}
 use Rattle.ent_types.specs.declared.entity.Entity.{Entity}
 use Rattle.ent_types.specs.declared.type_info.TypeInfo.{TypeInfo}
 use Rattle.ent_types.specs.TypeLookups.{field_kind_at}
@@ -9,19 +9,19 @@ use Rattle.ent_types.specs.TypeSets.{has_type, meets}
 use Rattle.world_model.specs.Members.{In, tally, one_if}
 use Rattle.world_model.specs.Row.{Cell, Row}
 use Rattle.world_model.specs.World.{Home, Mark, Block, World}
-use Rattle.world_model.specs.Found.{Found, found}
+use Rattle.world_model.specs.Found.{Found}
 use Rattle.world_model.specs.Write.{marked}
 use Rattle.expr_eval.specs.Values.{OwnRow, OtherRows, value, is_true}
 use Rattle.scenario_record.specs.declared.record.SystemEntry.{SystemEntry}
 use Rattle.run_model.specs.Clock.{Clock}
-use Rattle.run_model.specs.Query.{matches, passes, is_visited}
+use Rattle.run_model.specs.Query.{matches, is_visited}
 use Rattle.run_model.specs.Job.{Spot, own_of, others_in, fitted, Text, Assigns, Switches, texts_of, written_type, writes, after_text, after_texts}
-use Rattle.run_model.specs.Run.{Met, Entry, Ran, entries_at, cells_after, row_after, rows_after, visited, said_of, met_rows, item_after, met, blocks_after, entries_of, run}
+use Rattle.run_model.specs.Run.{Met, Entry, entries_at, cells_after, rows_after, visited, said_of, met_rows, item_after, met, blocks_after, run}
 use Rattle.run_model.specs.Touched.{named_types}
-use Rattle.run_model.specs.Phases.{reads, touches, conflicts, Turn, IsFree, AreFree, AreApart, Count, count_of, turn_ran, world_each, counts_each, moment_after, Item, item_ran, item_rows, rows_ran, turn_items, put_cells, put_rows, with_item, with_items, joined_from, joined, item_entries, items_count, joined_counts}
+use Rattle.run_model.specs.Phases.{reads, touches, conflicts, Turn, IsFree, AreFree, AreApart, Count, count_of, turn_ran, world_each, counts_each, moment_after, Item, rows_ran, turn_items, put_cells, put_rows, with_item, with_items, joined_from, joined, item_entries, items_count, joined_counts}
 use Rattle.run_laws.specs.Agree.{Both, CellAgree, MarkAgree, CellsAgree, RowAgree, BlockAgree, OthersAgree}
 use Rattle.run_laws.proofs.Lists.{both_self, both_then, both_less, in_left, has_in, in_has, Within}
-use Rattle.run_laws.proofs.RunAgree.{Touched, others_agree, rows_agree, blocks_agree, entries_agree, visited_agree, visits_agree, passing_agree}
+use Rattle.run_laws.proofs.RunAgree.{Touched, others_agree, rows_agree, entries_agree, visited_agree, visits_agree, passing_agree}
 
 -- ---- agreement goes on, and holds of less
 
@@ -122,22 +122,23 @@ module _ (clock : Clock) (registry : List TypeInfo) (s : SystemEntry) (last : Op
       → rows_ran clock registry frame o s item home k n rs ≡ rows_after registry s o frame item home k rs
   rows_whole o item home k zero [] e = refl
   rows_whole o item home k (suc n) [] e = refl
-  rows_whole o item home k zero (r ∷ rs) e = by (hits home r) e
+  rows_whole o item home k zero (r ∷ rs) e = by (hits home r) e (rows_whole o item home (k + 1) zero rs)
     where
-      by : (b : Bool) → 0 ≡ one_if b + tally (hits home) rs
+      by : (b : Bool) → 0 ≡ one_if b + tally (hits home) rs → (0 ≡ tally (hits home) rs → rs ≡ rows_after registry s o frame item home (k + 1) rs)
           → (r ∷ rs) ≡ (record r { cells = if b then cells_after registry s o (record { frame = frame; item = item; place = k }) (record { home = home; row = r }) else r.cells })
           ∷ rows_after registry s o frame item home (k + 1) rs
-      by true e = absurd (omega arith)
-      by false e = ap (λ qs. r ∷ qs) (rows_whole o item home (k + 1) zero rs (omega arith))
-  rows_whole o item home k (suc n) (r ∷ rs) e = by (hits home r) e
+      by true e rest = absurd (omega arith)
+      by false e rest = ap (λ (qs : List Row). r ∷ qs) (rest (omega arith))
+  rows_whole o item home k (suc n) (r ∷ rs) e = by (hits home r) e (λ m. rows_whole o item home (k + 1) m rs)
     where
       by : (b : Bool) → suc n ≡ one_if b + tally (hits home) rs
-          → (if b then row_after registry s o (record { frame = frame; item = item; place = k }) (record { home = home; row = r }) ∷ rows_ran clock registry frame o s item home (k + 1) n rs
+          → ((m : ℕ) → m ≡ tally (hits home) rs → rows_ran clock registry frame o s item home (k + 1) m rs ≡ rows_after registry s o frame item home (k + 1) rs)
+          → (if b then (record r { cells = if b then cells_after registry s o (record { frame = frame; item = item; place = k }) (record { home = home; row = r }) else r.cells }) ∷ rows_ran clock registry frame o s item home (k + 1) n rs
           else r ∷ rows_ran clock registry frame o s item home (k + 1) (suc n) rs)
           ≡ (record r { cells = if b then cells_after registry s o (record { frame = frame; item = item; place = k }) (record { home = home; row = r }) else r.cells })
           ∷ rows_after registry s o frame item home (k + 1) rs
-      by true e = ?
-      by false e = ap (λ qs. r ∷ qs) (rows_whole o item home (k + 1) (suc n) rs (omega arith))
+      by true e rest = ap (λ (qs : List Row). (record r { cells = cells_after registry s o (record { frame = frame; item = item; place = k }) (record { home = home; row = r }) }) ∷ qs) (rest n (omega arith))
+      by false e rest = ap (λ (qs : List Row). r ∷ qs) (rest (suc n) (omega arith))
 
   met_count : (item : ℕ) (home : Home) (k : ℕ) (rs : List Row) → length (met_rows registry s item home k rs) ≡ tally (hits home) rs
   met_count item home k [] = refl
@@ -286,7 +287,7 @@ module _ (clock : Clock) (frame : ℕ) (w : World) where
   unfolding run
   count_is j now bs fresh =
       let T : ℕ → Type 0 = Touched clock w.registry j.system j.last frame in
-      ap₂ (λ v pe. let c : Count = record { visits = v; passing = pe.0; entries = pe.1 } in c)
+      ap₂ (λ (v : ℕ) (pe : ℕ × List Entry). let c : Count = record { visits = v; passing = pe.0; entries = pe.1 } in c)
       (sym (visits_agree clock w.registry j.system j.last frame T (λ t i. i) w.blocks bs fresh)
       ∙ visits_are clock w.registry frame (others_in w) (others_in w) j (clock.next now) 0 w.blocks)
       (ap₂ (λ (n : ℕ) (es : List Entry). (n, es))

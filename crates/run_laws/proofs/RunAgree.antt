@@ -1,5 +1,5 @@
 -- A run sees no types but those that its system touches: on blocks that agree on these it does the same.
-use Rattle.std.proofs.Common.{◌≡◌, ℕ, ◌+◌, ◌⊎◌, inl, inr, nat_eq, Bool, true, false, not, ◌&&◌, ◌||◌, if◌then◌else◌, List, [], ◌∷◌, ◌++◌, map, filter, find, Option, Some, None, option_map, is_some, refl, sym, ap, ap₂, ◌∙◌, subst, slice_get}
+use Rattle.std.proofs.Common.{◌≡◌, ℕ, ◌+◌, nat_eq, Bool, true, false, not, ◌&&◌, ◌||◌, if◌then◌else◌, List, [], ◌∷◌, ◌++◌, map, find, Option, Some, None, option_map, is_some, refl, sym, ap, ap₂, ◌∙◌, subst, slice_get}
 use Rattle.std.specs.Prelude.{option_and_then}
 use Rattle.std.specs.Option.{option_or}
 use Rattle.std.specs.List.{list_any, flat_map}
@@ -20,15 +20,15 @@ use Rattle.scenario_record.specs.declared.record.SystemEntry.{SystemEntry}
 use Rattle.expr_trees.specs.declared.tree.Assign.{Assign}
 use Rattle.expr_trees.specs.declared.tree.Switch.{Switch}
 use Rattle.run_model.specs.Clock.{Clock}
-use Rattle.run_model.specs.Query.{is_empty, has_shared, is_off, is_on, is_disabled, are_tags_seen, matches, passes, is_fresh, is_visited}
+use Rattle.run_model.specs.Query.{is_empty, has_shared, is_off, is_on, is_disabled, matches, passes, is_fresh, is_visited}
 use Rattle.run_model.specs.Job.{Spot, own_of, Text, Assigns, Switches, texts_of, writes, after_texts}
-use Rattle.run_model.specs.Commands.{Saying, sayings_from}
-use Rattle.run_model.specs.Run.{Met, Entry, entries_at, cells_after, said_at, row_after, rows_after, visited, said_of, met_rows, item_after, met, blocks_after, entries_of}
+use Rattle.run_model.specs.Commands.{sayings_from}
+use Rattle.run_model.specs.Run.{Met, entries_at, cells_after, said_at, rows_after, visited, said_of, met_rows, item_after, met, blocks_after, entries_of}
 use Rattle.run_model.specs.Touched.{looked_up, own_types, named_types, own_in, looked_in}
 use Rattle.run_model.specs.Phases.{reads, touches}
-use Rattle.run_laws.specs.Agree.{Both, CellAgree, MarkAgree, CellsAgree, RowAgree, BlockAgree, FoundAgree, OthersAgree}
+use Rattle.run_laws.specs.Agree.{Both, MarkAgree, CellsAgree, RowAgree, BlockAgree, FoundAgree, OthersAgree}
 use Rattle.run_laws.proofs.Lists.{both_map, both_append, in_left, in_right, has_in, in_passing, all_eq, any_eq, Within, within_left, within_right}
-use Rattle.run_laws.proofs.Agree.{cell_same, off_same, Sees, sees_left, sees_right, AllSeen, texts_agree, said_agree, own_value, looked_value, own_text, looked_text, own_command, looked_command}
+use Rattle.run_laws.proofs.Agree.{cell_same, off_same, Sees, sees_left, sees_right, AllSeen, texts_agree, said_agree, own_value, looked_value, own_command, looked_command}
 
 -- ---- lookups
 

@@ -1,5 +1,5 @@
 -- A run keeps a world lawful.
-use Rattle.std.proofs.Common.{◌≡◌, ℕ, zero, suc, ℤ, pos, negsuc, ◌+◌, ◌≤◌, ◌<◌, ◌⊎◌, inl, inr, nat_eq, Bool, true, false, not, ◌&&◌, if◌then◌else◌, List, [], ◌∷◌, ◌++◌, map, filter, length, Option, None, refl, sym, ap, ap₂, ◌∙◌, subst, arith, eqb-true, slice_set, true≢false}
+use Rattle.std.proofs.Common.{◌≡◌, ℕ, zero, suc, ℤ, ◌+◌, ◌≤◌, ◌⊎◌, inl, inr, nat_eq, Bool, true, false, not, if◌then◌else◌, List, [], ◌∷◌, map, length, Option, None, refl, sym, ap, ap₂, ◌∙◌, subst, arith, eqb-true, slice_set, true≢false}
 use Rattle.std.specs.Prelude.{slice_index_or, FitsSigned}
 use Rattle.std.specs.Int.{int_wrap, w32, w64}
 use Rattle.std.proofs.lemmas.Int.{ints, SFits-int_wrap}
@@ -14,7 +14,7 @@ use Rattle.ent_types.specs.declared.value.Value.TheVariants.{Int, Ref}
 use Rattle.ent_types.specs.Fitting.{fit, fits_field, fits_fields, fits_type}
 use Rattle.ent_types.specs.Registries.{type_at}
 use Rattle.ent_types.specs.Types.{is_buffer}
-use Rattle.ent_types.specs.TypeLookups.{field_kind_at, is_buffer_at, is_enableable_at, is_shared_at}
+use Rattle.ent_types.specs.TypeLookups.{field_kind_at, is_buffer_at, is_enableable_at}
 use Rattle.ent_types.specs.TypeSets.{has_type}
 use Rattle.world_model.specs.Members.{In, tally, one_if}
 use Rattle.world_model.specs.Row.{Cell, Row, cell_type}
@@ -22,20 +22,17 @@ use Rattle.world_model.specs.World.{Home, Mark, Block, World, mark_type}
 use Rattle.world_model.specs.Found.{Found, placed_in, placed, has_index}
 use Rattle.world_model.specs.Fits.{Fits}
 use Rattle.world_model.specs.Write.{marked}
-use Rattle.world_model.specs.Operations.{with_values, switched}
-use Rattle.world_model.specs.Lawful.{AreLawfulCells, IsLawfulRow, IsLawfulHome, IsPast, IsLawfulBlock, IsLawful, IsSound, count_at, is_free_at}
+use Rattle.world_model.specs.Lawful.{AreLawfulCells, IsLawfulRow, IsPast, IsLawfulBlock, IsLawful}
 use Rattle.world_laws.proofs.Members.{in_append, in_left, in_right, in_map}
 use Rattle.expr_eval.specs.Values.{OwnRow, OtherRows, value, is_true}
-use Rattle.expr_trees.specs.declared.tree.Assign.{Assign}
-use Rattle.expr_trees.specs.declared.tree.Switch.{Switch}
 use Rattle.expr_trees.specs.declared.tree.ValueExpr.{ValueExpr}
 use Rattle.expr_trees.specs.declared.tree.ValueExpr.TheVariants as values
 use Rattle.scenario_record.specs.declared.record.SystemEntry.{SystemEntry}
 use Rattle.run_model.specs.Clock.{Clock, moments}
 use Rattle.run_model.specs.Query.{matches, is_visited}
 use Rattle.run_model.specs.Job.{Spot, own_of, others_in, fitted, Text, Assigns, Switches, texts_of, writes, after_text, after_texts}
-use Rattle.run_model.specs.Run.{Ran, cells_after, row_after, rows_after, visited, item_after, blocks_after, run}
-use Rattle.run_laws.specs.Agree.{Both, FoundAgree, BlockAgree, RowAgree}
+use Rattle.run_model.specs.Run.{cells_after, row_after, rows_after, visited, item_after, blocks_after, run}
+use Rattle.run_laws.specs.Agree.{Both, FoundAgree}
 use Rattle.run_laws.specs.Suits.{HasLawfulTexts}
 use Rattle.run_laws.proofs.RunAgree.{placed_agree}
 use Rattle.run_laws.proofs.Phases.{Out, blocks_keep}
@@ -150,11 +147,13 @@ placed_in_has home r (q ∷ rs) (inr i) = inr (placed_in_has home r rs i)
 
 in_placed : (x : Found) (bs : List Block) → In x (placed bs) → (b : Block) × In b bs × ((r : Row) × In r b.rows × (x ≡ record { home = b.home; row = r }))
 in_placed x [] h = absurd h
-in_placed x (b ∷ bs) h = by (in_append x (placed_in b.home b.rows) (placed bs) h)
+in_placed x (b ∷ bs) h = by (in_append x (placed_in b.home b.rows) (placed bs) h) (in_placed x bs)
   where
-    by : In x (placed_in b.home b.rows) ⊎ In x (placed bs) → (c : Block) × In c (b ∷ bs) × ((r : Row) × In r c.rows × (x ≡ record { home = c.home; row = r }))
-    by (inl i) = (b, inl refl, in_placed_in x b.home b.rows i)
-    by (inr i) = let (c, j, rest) = in_placed x bs i in (c, inr j, rest)
+    by : In x (placed_in b.home b.rows) ⊎ In x (placed bs)
+        → (In x (placed bs) → (c : Block) × In c bs × ((r : Row) × In r c.rows × (x ≡ record { home = c.home; row = r })))
+        → (c : Block) × In c (b ∷ bs) × ((r : Row) × In r c.rows × (x ≡ record { home = c.home; row = r }))
+    by (inl i) rest = (b, inl refl, in_placed_in x b.home b.rows i)
+    by (inr i) rest = let (c, j, there) = rest i in (c, inr j, there)
 
 placed_has : (b : Block) (r : Row) (bs : List Block) → In b bs → In r b.rows → In (record { home = b.home; row = r }) (placed bs)
 placed_has b r [] h i = absurd h

@@ -1,8 +1,7 @@
 -- Rows, blocks and lookups that agree on some types. Of the other types they have the same ones, with other values.
-use Rattle.std.specs.Prelude.{◌≡◌, ℕ, List, [], ◌∷◌, Option}
+use Rattle.std.specs.Prelude.{◌≡◌, ℕ, List, [], ◌∷◌}
 use Rattle.ent_types.specs.declared.entity.Entity.{Entity}
 use Rattle.ent_types.specs.declared.entity.TypeId.{TypeId}
-use Rattle.world_model.specs.Members.{In}
 use Rattle.world_model.specs.Row.{Cell, Row}
 use Rattle.world_model.specs.World.{Mark, Block}
 use Rattle.world_model.specs.Found.{Found}

@@ -1,5 +1,5 @@
 -- Lists of entries.
-use Rattle.std.specs.Prelude.{◌≡◌, ℕ, List}
+use Rattle.std.specs.Prelude.{◌≡◌, List}
 use Rattle.world_model.specs.Members.{In}
 use Rattle.run_model.specs.Run.{Entry}
 

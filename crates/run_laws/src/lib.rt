@@ -6,6 +6,7 @@ ghost use Rattle.std.specs.List.Sorted.{IsPermutation, IsSortedBy};
 ghost use Rattle.ent_types.specs.declared.type_info.TypeInfo.{TypeInfo};
 ghost use Rattle.ent_types.specs.Versions.{version_of, IsVersion};
 ghost use Rattle.world_model.specs.Members.{In};
+ghost use Rattle.world_model.specs.Lawful.{IsLawful};
 ghost use Rattle.world_model.specs.World.{Home, World};
 ghost use Rattle.world_model.specs.Row.{Row};
 ghost use Rattle.world_model.specs.Found.{Found};
@@ -20,6 +21,7 @@ ghost use Rattle.run_model.specs.Buffers.{before, arranged};
 ghost use Rattle.run_model.specs.Phases.{touches, Turn, AreApart, world_each, counts_each, joined, joined_counts};
 ghost use Rattle.run_laws.specs.Agree.{CellsAgree, RowAgree, OthersAgree};
 ghost use Rattle.run_laws.specs.Entries.{AreDifferent};
+ghost use Rattle.run_laws.specs.Suits.{HasLawfulTexts};
 ghost use Rattle.run_laws.specs.Versions.{ran_versions, IsLast, HasMoments};
 
 /// A row that matches has types that pass. So a block with a row that matches is never left out for its types.
@@ -51,7 +53,6 @@ pub fn entries_of_a_buffer_differ()
 {}
 
 /// The entries of a buffer in another order, which is sorted by the order of playback, are the arranged ones.
-#[tactic(auto, using(crate::proofs::Arrange::arranged_is))]
 pub fn sorted_entries_are_arranged()
     ensures { (es fs : List Entry) → AreDifferent es → IsPermutation es fs → IsSortedBy before fs → arranged es ≡ fs }
 {}
@@ -69,4 +70,11 @@ pub fn versions_stand_for_moments_in_a_run()
 pub fn phases_are_the_fold_of_their_systems()
     ensures { (clock : Clock) (frame : ℕ) (w : World) (js : List Turn) → AreApart w.registry js
         → (world_each clock frame js w ≡ joined clock frame js w) × (counts_each clock frame js w ≡ joined_counts clock frame w w.moment js) }
+{}
+
+/// A run keeps a world lawful, if no assignment of the system writes a dynamic buffer, and each enable text switches an
+/// enableable type.
+pub fn runs_keep_worlds_lawful()
+    ensures { (capacity : List ℕ → ℕ) (first : ℕ) (s : SystemEntry) (last : Option ℕ) (frame : ℕ) (w : World) → HasLawfulTexts w.registry s
+        → IsLawful capacity w → IsLawful capacity (run (moments first) s last frame w).world }
 {}

@@ -1,4 +1,4 @@
-use Rattle.std.proofs.Common.{Option, None}
+use Rattle.std.proofs.Common.{None}
 use Rattle.run_model.specs.Clock.{versions}
 use Rattle.run_laws.proofs.RunAgree.{Touched, cells_agree, said_is}
 use Rattle.run_laws.proofs.jobs_read_only_what_the_system_touches.Goals as goal

@@ -1,4 +1,4 @@
-use Rattle.std.proofs.Common.{Option, None}
+use Rattle.std.proofs.Common.{None}
 use Rattle.run_model.specs.Clock.{versions}
 use Rattle.run_laws.proofs.Phases.{cells_keep}
 use Rattle.run_laws.proofs.jobs_write_only_what_the_system_writes.Goals as goal
