@@ -8,3 +8,5 @@ pub mod Sound
 pub mod Types
 pub mod Elements
 pub mod Decided
+pub mod Blocks
+pub mod Kept
