@@ -9,3 +9,5 @@ pub mod RunAgree
 pub mod Phases
 pub mod Examples
 pub mod RunLawful
+pub mod PlayLawful
+pub mod EntriesSuit

@@ -45,7 +45,7 @@ wraps_32 z h = grind (arith, ints)
 wraps_64 : (z : ℤ) → FitsSigned w64 z → fits_field I64 (Int z) ≡ true
 wraps_64 z h = grind (arith, ints)
 
-fit_fits : (kind : FieldKind) (v : Value) → fits_field kind (fit kind v) ≡ true
+pub fit_fits : (kind : FieldKind) (v : Value) → fits_field kind (fit kind v) ≡ true
 fit_fits I32 (Int z) = wraps_32 (int_wrap w32 z) (SFits-int_wrap w32 z)
 fit_fits I32 (Ref e) = refl
 fit_fits I64 (Int z) = wraps_64 (int_wrap w64 z) (SFits-int_wrap w64 z)

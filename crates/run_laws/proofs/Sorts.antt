@@ -1,5 +1,5 @@
 -- Sorting by insertion.
-use Rattle.std.proofs.Common.{◌≡◌, ℤ, inl, inr, Bool, true, false, if◌then◌else◌, List, [], ◌∷◌, refl, sym, ap, ap₂, ◌∙◌, arith}
+use Rattle.std.proofs.Common.{◌≡◌, ◌⊎◌, ℤ, inl, inr, Bool, true, false, if◌then◌else◌, List, [], ◌∷◌, refl, sym, ap, ap₂, ◌∙◌, arith}
 use Rattle.std.specs.Prelude.{int_lt}
 use Rattle.std.proofs.lemmas.Int.{ints}
 use Rattle.world_model.specs.Members.{In}
@@ -7,6 +7,28 @@ use Rattle.world_laws.proofs.Perms.{Perm, empty, keep, swap, follow, perm_back, 
 use Rattle.run_model.specs.Buffers.{insert_by, sorted_by}
 
 module _ {X : Type 0} where
+  in_insert : (lt : X → X → Bool) (x y : X) (ys : List X) → In x (insert_by lt y ys) → (x ≡ y) ⊎ In x ys
+  in_insert lt x y [] h = h
+  in_insert lt x y (z ∷ zs) h = by (lt z y) h (in_insert lt x y zs)
+    where
+      behind : (x ≡ y) ⊎ In x zs → (x ≡ y) ⊎ ((x ≡ z) ⊎ In x zs)
+      behind (inl e) = inl e
+      behind (inr j) = inr (inr j)
+
+      by : (b : Bool) → In x (if b then z ∷ insert_by lt y zs else y ∷ z ∷ zs) → (In x (insert_by lt y zs) → (x ≡ y) ⊎ In x zs) → (x ≡ y) ⊎ ((x ≡ z) ⊎ In x zs)
+      by false h rest = h
+      by true (inl e) rest = inr (inl e)
+      by true (inr i) rest = behind (rest i)
+
+  -- sorting brings nothing new
+  pub in_sorted : (lt : X → X → Bool) (x : X) (xs : List X) → In x (sorted_by lt xs) → In x xs
+  in_sorted lt x [] h = h
+  in_sorted lt x (y ∷ ys) h = by (in_insert lt x y (sorted_by lt ys) h) (in_sorted lt x ys)
+    where
+      by : (x ≡ y) ⊎ In x (sorted_by lt ys) → (In x (sorted_by lt ys) → In x ys) → (x ≡ y) ⊎ In x ys
+      by (inl e) rest = inl e
+      by (inr i) rest = inr (rest i)
+
   -- one sort for each order of the elements
   module _ (lt : X → X → Bool) (later : (x y z : X) → lt x y ≡ true → lt y z ≡ true → lt x z ≡ true) (once : (x y : X) → lt x y ≡ true → lt y x ≡ false) where
     insert_swap : (x y : X) (zs : List X) → lt x y ≡ true → insert_by lt x (insert_by lt y zs) ≡ insert_by lt y (insert_by lt x zs)

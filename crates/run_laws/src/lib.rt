@@ -6,7 +6,7 @@ ghost use Rattle.std.specs.List.Sorted.{IsPermutation, IsSortedBy};
 ghost use Rattle.ent_types.specs.declared.type_info.TypeInfo.{TypeInfo};
 ghost use Rattle.ent_types.specs.Versions.{version_of, IsVersion};
 ghost use Rattle.world_model.specs.Members.{In};
-ghost use Rattle.world_model.specs.Lawful.{IsLawful};
+ghost use Rattle.world_model.specs.Lawful.{HasRoomForParts, IsLawful};
 ghost use Rattle.world_model.specs.World.{Home, World};
 ghost use Rattle.world_model.specs.Row.{Row};
 ghost use Rattle.world_model.specs.Found.{Found};
@@ -18,10 +18,11 @@ ghost use Rattle.run_model.specs.Query.{matches, passes};
 ghost use Rattle.run_model.specs.Job.{Spot, writes};
 ghost use Rattle.run_model.specs.Run.{Entry, cells_after, said_at, run};
 ghost use Rattle.run_model.specs.Buffers.{before, arranged};
+ghost use Rattle.run_model.specs.Playback.{played};
 ghost use Rattle.run_model.specs.Phases.{touches, Turn, AreApart, world_each, counts_each, joined, joined_counts};
 ghost use Rattle.run_laws.specs.Agree.{CellsAgree, RowAgree, OthersAgree};
 ghost use Rattle.run_laws.specs.Entries.{AreDifferent};
-ghost use Rattle.run_laws.specs.Suits.{HasLawfulTexts};
+ghost use Rattle.run_laws.specs.Suits.{AllSuit, HasLawfulTexts};
 ghost use Rattle.run_laws.specs.Versions.{ran_versions, IsLast, HasMoments};
 
 /// A row that matches has types that pass. So a block with a row that matches is never left out for its types.
@@ -77,4 +78,11 @@ pub fn phases_are_the_fold_of_their_systems()
 pub fn runs_keep_worlds_lawful()
     ensures { (capacity : List ℕ → ℕ) (first : ℕ) (s : SystemEntry) (last : Option ℕ) (frame : ℕ) (w : World) → HasLawfulTexts w.registry s
         → IsLawful capacity w → IsLawful capacity (run (moments first) s last frame w).world }
+{}
+
+/// Playback keeps a world lawful, if each entry asks for an operation that suits the world's types.
+#[tactic(auto, using(crate::proofs::PlayLawful::played_lawful))]
+pub fn playback_keeps_worlds_lawful()
+    ensures { (capacity : List ℕ → ℕ) → HasRoomForParts capacity → (w : World) (entries : List Entry) → AllSuit w.registry entries
+        → IsLawful capacity w → IsLawful capacity (played capacity w entries).world }
 {}
