@@ -10,3 +10,5 @@ pub mod Elements
 pub mod Decided
 pub mod Blocks
 pub mod Kept
+pub mod Versions
+pub mod Meanings
