@@ -36,7 +36,7 @@ use Rattle.scenario_record.specs.declared.record.CommandEntry.{CommandEntry}
 use Rattle.run_model.specs.Query.{is_off}
 use Rattle.run_model.specs.Job.{Spot, own_of, fitted, Text, Assigns, Switches, after_text, after_texts}
 use Rattle.run_model.specs.Touched.{own_in_ref, own_step, own_in, looked_step, looked_in, in_value, in_part, in_act, in_command}
-use Rattle.run_model.specs.Commands.{Live, Given, Known, Creates, Does, Saying, target_of, given_ref, given_of, givens_from, part_given, deed_of, placeholders_in, is_recorded, saying_of, sayings_from}
+use Rattle.run_model.specs.Commands.{Live, GivenValue, Known, Creates, ActsOn, Recorded, target_of, given_ref, given_of, givens_from, part_given, change_of, placeholders_in, is_recorded, recorded_as, recorded_from}
 use Rattle.run_laws.specs.Agree.{CellAgree, CellsAgree, OthersAgree}
 use Rattle.run_laws.proofs.Lists.{both_map, Within, within_left, within_right}
 
@@ -219,7 +219,7 @@ module _ (X : ℕ → Type 0) where
             → givens_from registry (own cs) o t k vs ≡ givens_from registry (own ds) p t k vs
         givens_agree t k [] w = refl
         givens_agree t k (v ∷ vs) w =
-            ap₂ (λ (g : Given) gs. g ∷ gs)
+            ap₂ (λ (g : GivenValue) gs. g ∷ gs)
             (given_agree (field_kind_at registry t (k % length (fields_at registry t))) v
             (sees_left (own_value v) (flat_map own_value vs) (looked_value v) (flat_map looked_value vs) w))
             (givens_agree t (k + 1) vs (sees_right (own_value v) (flat_map own_value vs) (looked_value v) (flat_map looked_value vs) w))
@@ -231,35 +231,35 @@ module _ (X : ℕ → Type 0) where
         looked_part q = in_part looked_in no_ref q
 
         part_agree : (q : PartExpr) → Sees (own_part q) (looked_part q) → part_given registry (own cs) o q ≡ part_given registry (own ds) p q
-        part_agree q w = ap (λ gs. let r : PartOf Given = record { type_id = q.ty.0; values = gs } in r) (givens_agree q.ty.0 0 q.values w)
+        part_agree q w = ap (λ gs. let r : PartOf GivenValue = record { type_id = q.ty.0; values = gs } in r) (givens_agree q.ty.0 0 q.values w)
 
         parts_agree : (qs : List PartExpr) → Sees (flat_map own_part qs) (flat_map looked_part qs)
             → map (part_given registry (own cs) o) qs ≡ map (part_given registry (own ds) p) qs
         parts_agree [] w = refl
         parts_agree (q ∷ qs) w =
-            ap₂ (λ (r : PartOf Given) rs. r ∷ rs) (part_agree q (sees_left (own_part q) (flat_map own_part qs) (looked_part q) (flat_map looked_part qs) w))
+            ap₂ (λ (r : PartOf GivenValue) rs. r ∷ rs) (part_agree q (sees_left (own_part q) (flat_map own_part qs) (looked_part q) (flat_map looked_part qs) w))
             (parts_agree qs (sees_right (own_part q) (flat_map own_part qs) (looked_part q) (flat_map looked_part qs) w))
 
-        on_part : (f : PartOf Given → Act Given) (r : RefExpr) (q : PartExpr) → Sees (own_in_ref r ++ own_part q) (looked_part q)
-            → Does (target_of (own cs) r) (f (part_given registry (own cs) o q)) ≡ Does (target_of (own ds) r) (f (part_given registry (own ds) p q))
+        on_part : (f : PartOf GivenValue → Act GivenValue) (r : RefExpr) (q : PartExpr) → Sees (own_in_ref r ++ own_part q) (looked_part q)
+            → ActsOn (target_of (own cs) r) (f (part_given registry (own cs) o q)) ≡ ActsOn (target_of (own ds) r) (f (part_given registry (own ds) p q))
         on_part f r q w =
-            ap₂ (λ t g. Does t (f g)) (target_agree r (within_left (own_in_ref r) (own_part q) X w.0))
+            ap₂ (λ t g. ActsOn t (f g)) (target_agree r (within_left (own_in_ref r) (own_part q) X w.0))
             (part_agree q (within_right (own_in_ref r) (own_part q) X w.0, w.1))
 
         deed_agree : (a : CommandText) → Sees (in_act own_in own_in_ref a) (in_act looked_in no_ref a)
-            → deed_of registry (own cs) o a ≡ deed_of registry (own ds) p a
+            → change_of registry (own cs) o a ≡ change_of registry (own ds) p a
         deed_agree (texts.Create name qs) w = ap Creates (parts_agree qs w)
-        deed_agree (texts.Destroy r) w = ap (λ t. Does t Destroy) (target_agree r w.0)
+        deed_agree (texts.Destroy r) w = ap (λ t. ActsOn t Destroy) (target_agree r w.0)
         deed_agree (texts.Add r q) w = on_part Add r q w
         deed_agree (texts.Set r q) w = on_part Set r q w
         deed_agree (texts.SetShared r q) w = on_part SetShared r q w
-        deed_agree (texts.Remove r ty) w = ap (λ t. Does t (Remove ty.0)) (target_agree r w.0)
-        deed_agree (texts.Enable r ty) w = ap (λ t. Does t (SetEnabled ty.0 true)) (target_agree r w.0)
-        deed_agree (texts.Disable r ty) w = ap (λ t. Does t (SetEnabled ty.0 false)) (target_agree r w.0)
-        deed_agree (texts.Instantiate name r) w = ap (λ t. Does t Instantiate) (target_agree r w.0)
+        deed_agree (texts.Remove r ty) w = ap (λ t. ActsOn t (Remove ty.0)) (target_agree r w.0)
+        deed_agree (texts.Enable r ty) w = ap (λ t. ActsOn t (SetEnabled ty.0 true)) (target_agree r w.0)
+        deed_agree (texts.Disable r ty) w = ap (λ t. ActsOn t (SetEnabled ty.0 false)) (target_agree r w.0)
+        deed_agree (texts.Instantiate name r) w = ap (λ t. ActsOn t Instantiate) (target_agree r w.0)
 
         pub said_agree : (ks : List CommandEntry) → Sees (flat_map own_command ks) (flat_map looked_command ks) → (n : ℕ) (recorded : List ℕ)
-            → sayings_from registry (own cs) o n recorded ks ≡ sayings_from registry (own ds) p n recorded ks
+            → recorded_from registry (own cs) o n recorded ks ≡ recorded_from registry (own ds) p n recorded ks
         said_agree [] w n recorded = refl
         said_agree (c ∷ ks) w n recorded =
             let here = sees_left (own_command c) (flat_map own_command ks) (looked_command c) (flat_map looked_command ks) w in
@@ -269,12 +269,12 @@ module _ (X : ℕ → Type 0) where
             let test : is_recorded registry (own cs) o recorded c ≡ is_recorded registry (own ds) p recorded c =
             ap (λ z. is_true z && list_all (has_type recorded) (placeholders_in c.act))
             (value_agree c.when (sees_left (own_in c.when) own_key (looked_in c.when) looked_key here)) in
-            let said : saying_of registry (own cs) o n c ≡ saying_of registry (own ds) p n c =
-            ap₂ (λ z d. let x : Saying = record { key = int_wrap w32 z; point = c.buffer; number = n; deed = d } in x)
+            let command : recorded_as registry (own cs) o n c ≡ recorded_as registry (own ds) p n c =
+            ap₂ (λ z d. let x : Recorded = record { key = int_wrap w32 z; point = c.buffer; number = n; change = d } in x)
             (value_agree c.key (sees_left (own_in c.key) (in_act own_in own_in_ref c.act) (looked_in c.key) (in_act looked_in no_ref c.act) late))
             (deed_agree c.act (sees_right (own_in c.key) (in_act own_in own_in_ref c.act) (looked_in c.key) (in_act looked_in no_ref c.act) late)) in
-            ap₂ (λ us vs. us ++ vs) (ap₂ (λ b (x : Saying). if b then x ∷ [] else []) test said)
-            (ap (λ b. sayings_from registry (own cs) o (n + 1) (if b then n ∷ recorded else recorded) ks) test
+            ap₂ (λ us vs. us ++ vs) (ap₂ (λ b (x : Recorded). if b then x ∷ [] else []) test command)
+            (ap (λ b. recorded_from registry (own cs) o (n + 1) (if b then n ∷ recorded else recorded) ks) test
             ∙ said_agree ks (sees_right (own_command c) (flat_map own_command ks) (looked_command c) (flat_map looked_command ks) w) (n + 1)
             (if is_recorded registry (own ds) p recorded c then n ∷ recorded else recorded))
 

@@ -56,57 +56,57 @@ spot_same i p m j q n e f = grind (arith, nat_tests)
 -- ---- the order of entries
 
 abbrev inner : Entry → Entry → Bool
-inner x y = is_recorded_before x.item x.place x.said.number y.item y.place y.said.number
+inner x y = is_recorded_before x.item x.place x.command.number y.item y.place y.command.number
 
 abbrev Before : Entry → Entry → Type 0
-Before x y = (int_lt x.said.key y.said.key ≡ true) ⊎ ((x.said.key ≡ y.said.key) × (inner x y ≡ true))
+Before x y = (int_lt x.command.key y.command.key ≡ true) ⊎ ((x.command.key ≡ y.command.key) × (inner x y ≡ true))
 
 before_is : (x y : Entry) → before x y ≡ true → Before x y
-before_is x y h = by (int_lt x.said.key y.said.key) (int_eq x.said.key y.said.key) refl (Decides-int_eq x.said.key y.said.key).0 h
+before_is x y h = by (int_lt x.command.key y.command.key) (int_eq x.command.key y.command.key) refl (Decides-int_eq x.command.key y.command.key).0 h
   where
-    by : (b c : Bool) → int_lt x.said.key y.said.key ≡ b → (c ≡ true → x.said.key ≡ y.said.key) → (b || (c && inner x y)) ≡ true → Before x y
+    by : (b c : Bool) → int_lt x.command.key y.command.key ≡ b → (c ≡ true → x.command.key ≡ y.command.key) → (b || (c && inner x y)) ≡ true → Before x y
     by true c e same h = inl e
     by false true e same h = inr (same refl, h)
     by false false e same h = absurd (cc)
 
 is_before : (x y : Entry) → Before x y → before x y ≡ true
 is_before x y (inl e) = rw e refl
-is_before x y (inr h) = by (int_lt x.said.key y.said.key)
+is_before x y (inr h) = by (int_lt x.command.key y.command.key)
   where
-    by : (b : Bool) → (b || (int_eq x.said.key y.said.key && inner x y)) ≡ true
+    by : (b : Bool) → (b || (int_eq x.command.key y.command.key && inner x y)) ≡ true
     by true = refl
-    by false = ap₂ (λ s t. s && t) ((Decides-int_eq x.said.key y.said.key).1 h.0) h.1
+    by false = ap₂ (λ s t. s && t) ((Decides-int_eq x.command.key y.command.key).1 h.0) h.1
 
 before_later : (x y z : Entry) → before x y ≡ true → before y z ≡ true → before x z ≡ true
 before_later x y z e f = is_before x z (by (before_is x y e) (before_is y z f))
   where
     by : Before x y → Before y z → Before x z
-    by (inl e) (inl f) = inl (key_later x.said.key y.said.key z.said.key e f)
-    by (inl e) (inr f) = inl (subst (λ k. int_lt x.said.key k ≡ true) f.0 e)
-    by (inr e) (inl f) = inl (subst (λ k. int_lt k z.said.key ≡ true) (sym e.0) f)
-    by (inr e) (inr f) = inr (e.0 ∙ f.0, spot_later x.item x.place x.said.number y.item y.place y.said.number z.item z.place z.said.number e.1 f.1)
+    by (inl e) (inl f) = inl (key_later x.command.key y.command.key z.command.key e f)
+    by (inl e) (inr f) = inl (subst (λ k. int_lt x.command.key k ≡ true) f.0 e)
+    by (inr e) (inl f) = inl (subst (λ k. int_lt k z.command.key ≡ true) (sym e.0) f)
+    by (inr e) (inr f) = inr (e.0 ∙ f.0, spot_later x.item x.place x.command.number y.item y.place y.command.number z.item z.place z.command.number e.1 f.1)
 
 before_once : (x y : Entry) → before x y ≡ true → before y x ≡ false
 before_once x y e = false_when (before y x) (λ f. by (before_is x x (before_later x y x e f)))
   where
     by : Before x x → ⊥
-    by (inl e) = key_self x.said.key e
-    by (inr e) = spot_self x.item x.place x.said.number e.1
+    by (inl e) = key_self x.command.key e
+    by (inr e) = spot_self x.item x.place x.command.number e.1
 
 -- entries that neither stands before the other agree in item, place and number
-before_same : (x y : Entry) → before x y ≡ false → before y x ≡ false → (x.item ≡ y.item) × (x.place ≡ y.place) × (x.said.number ≡ y.said.number)
-before_same x y e f = by (int_lt x.said.key y.said.key) (int_lt y.said.key x.said.key) refl refl e f
+before_same : (x y : Entry) → before x y ≡ false → before y x ≡ false → (x.item ≡ y.item) × (x.place ≡ y.place) × (x.command.number ≡ y.command.number)
+before_same x y e f = by (int_lt x.command.key y.command.key) (int_lt y.command.key x.command.key) refl refl e f
   where
-    by : (b c : Bool) → int_lt x.said.key y.said.key ≡ b → int_lt y.said.key x.said.key ≡ c
-        → (b || (int_eq x.said.key y.said.key && inner x y)) ≡ false → (c || (int_eq y.said.key x.said.key && inner y x)) ≡ false
-        → (x.item ≡ y.item) × (x.place ≡ y.place) × (x.said.number ≡ y.said.number)
+    by : (b c : Bool) → int_lt x.command.key y.command.key ≡ b → int_lt y.command.key x.command.key ≡ c
+        → (b || (int_eq x.command.key y.command.key && inner x y)) ≡ false → (c || (int_eq y.command.key x.command.key && inner y x)) ≡ false
+        → (x.item ≡ y.item) × (x.place ≡ y.place) × (x.command.number ≡ y.command.number)
     by true c g h e f = absurd (cc)
     by false true g h e f = absurd (cc)
     by false false g h e f =
-        let same : x.said.key ≡ y.said.key = key_same x.said.key y.said.key g h in
-        spot_same x.item x.place x.said.number y.item y.place y.said.number
-        (ap (λ t. t && inner x y) (sym ((Decides-int_eq x.said.key y.said.key).1 same)) ∙ e)
-        (ap (λ t. t && inner y x) (sym ((Decides-int_eq y.said.key x.said.key).1 (sym same))) ∙ f)
+        let same : x.command.key ≡ y.command.key = key_same x.command.key y.command.key g h in
+        spot_same x.item x.place x.command.number y.item y.place y.command.number
+        (ap (λ t. t && inner x y) (sym ((Decides-int_eq x.command.key y.command.key).1 same)) ∙ e)
+        (ap (λ t. t && inner y x) (sym ((Decides-int_eq y.command.key x.command.key).1 (sym same))) ∙ f)
 
 -- what has the same entries in order is arranged
 pub arranged_is : (es fs : List Entry) → AreDifferent es → IsPermutation es fs → IsSortedBy before fs → arranged es ≡ fs

@@ -11,14 +11,15 @@ use Rattle.world_model.specs.World.{Mark, Block, World}
 use Rattle.world_model.specs.Found.{Found, placed_in, placed, is_of}
 use Rattle.world_model.specs.Write.{marked}
 use Rattle.world_model.specs.Versions.{mark_versions, block_versions, world_versions}
+use Rattle.world_laws.proofs.Versions.{placed_turned}
 use Rattle.expr_eval.specs.Values.{OtherRows}
 use Rattle.expr_eval.specs.Rows.{others_of}
 use Rattle.scenario_record.specs.declared.record.SystemEntry.{SystemEntry}
 use Rattle.run_model.specs.Clock.{Clock, moments, versions}
 use Rattle.run_model.specs.Query.{is_empty, has_shared, matches, passes, is_fresh, is_visited}
 use Rattle.run_model.specs.Job.{writes, others_in}
-use Rattle.run_model.specs.Run.{Entry, Ran, entries_at, rows_after, visited, said_of, met_rows, item_after, met, blocks_after, entries_of, run}
-use Rattle.run_laws.specs.Versions.{ran_versions, IsLast, HasMoments}
+use Rattle.run_model.specs.Run.{Entry, RunResult, entries_at, rows_after, visited, recorded_of, matched_in, item_after, matched, blocks_after, entries_of, run}
+use Rattle.run_laws.specs.Versions.{run_versions, IsLast, HasMoments}
 
 -- two clocks, of which the second counts with what a function gives for the moments of the first
 module _ (c d : Clock) (v : ℕ → ℕ) (registry : List TypeInfo) (s : SystemEntry) (last : Option ℕ) where
@@ -51,10 +52,6 @@ module _ (c d : Clock) (v : ℕ → ℕ) (registry : List TypeInfo) (s : SystemE
       ap (λ f. (passes registry s b.home.types && has_shared s b.home) && (f && list_any (λ r. matches registry s (record { home = b.home; row = r })) b.rows))
       (fresh_same last b h.0 h.1)
 
-  placed_same : (bs : List Block) → placed (turned bs) ≡ placed bs
-  placed_same [] = refl
-  placed_same (b ∷ bs) = ap (λ xs. placed_in b.home b.rows ++ xs) (placed_same bs)
-
   marked_same : (now : ℕ) (types : List ℕ) (ms : List Mark) → marked (v now) types (map (mark_versions v) ms) ≡ map (mark_versions v) (marked now types ms)
   marked_same now types [] = refl
   marked_same now types (m ∷ ms) = ap₂ (λ (x : Mark) xs. x ∷ xs) (by (has_type types m.type_id)) (marked_same now types ms)
@@ -80,11 +77,11 @@ module _ (c d : Clock) (v : ℕ → ℕ) (registry : List TypeInfo) (s : SystemE
         by false = refl
 
     met_same : (item : ℕ) (bs : List Block) → ((b : Block) → In b bs → BlockAlike b)
-        → met d registry s (option_map v last) item (turned bs) ≡ met c registry s last item bs
+        → matched d registry s (option_map v last) item (turned bs) ≡ matched c registry s last item bs
     met_same item [] h = refl
     met_same item (b ∷ bs) h =
-        ap (λ t. (if t then met_rows registry s item b.home 0 b.rows else []) ++ met d registry s (option_map v last) (if t then item + 1 else item) (turned bs)) (visited_same b (h b (inl refl)))
-        ∙ ap (λ ms. (if is_visited registry c s last b then met_rows registry s item b.home 0 b.rows else []) ++ ms) (met_same (item_after c registry s last item b) bs (λ e i. h e (inr i)))
+        ap (λ t. (if t then matched_in registry s item b.home 0 b.rows else []) ++ matched d registry s (option_map v last) (if t then item + 1 else item) (turned bs)) (visited_same b (h b (inl refl)))
+        ∙ ap (λ ms. (if is_visited registry c s last b then matched_in registry s item b.home 0 b.rows else []) ++ ms) (met_same (item_after c registry s last item b) bs (λ e i. h e (inr i)))
 
   visits_same : (bs : List Block) → ((b : Block) → In b bs → BlockAlike b) → tally (is_visited registry d s (option_map v last)) (turned bs) ≡ tally (is_visited registry c s last) bs
   visits_same [] h = refl
@@ -97,20 +94,20 @@ module _ (c d : Clock) (v : ℕ → ℕ) (registry : List TypeInfo) (s : SystemE
 -- a run by either clock
 run_same : (c d : Clock) (v : ℕ → ℕ) (s : SystemEntry) (last : Option ℕ) (frame : ℕ) (w : World)
     → d.next (v w.moment) ≡ v (c.next w.moment) → ((b : Block) → In b w.blocks → BlockAlike c d v w.registry s last b)
-    → run d s (option_map v last) frame (world_versions v w) ≡ ran_versions v (run c s last frame w)
+    → run d s (option_map v last) frame (world_versions v w) ≡ run_versions v (run c s last frame w)
 unfolding run
 run_same c d v s last frame w next alike =
     let others : others_in (world_versions v w) ≡ others_in w =
-    ap (λ (xs : List Found). others_of (λ e. find (is_of e) xs)) (placed_same c d v w.registry s last w.blocks) in
+    ap (λ (xs : List Found). others_of (λ e. find (is_of e) xs)) (placed_turned v w.blocks) in
     let blocks : blocks_after d w.registry s (option_map v last) frame (others_in (world_versions v w)) (d.next (v w.moment)) 0 (map (block_versions v) w.blocks)
     ≡ map (block_versions v) (blocks_after c w.registry s last frame (others_in w) (c.next w.moment) 0 w.blocks) =
     ap₂ (λ o n. blocks_after d w.registry s (option_map v last) frame o n 0 (map (block_versions v) w.blocks)) others next
     ∙ blocks_same c d v w.registry s last frame (others_in w) (c.next w.moment) 0 w.blocks alike in
     let entries : entries_of d w.registry s (option_map v last) frame (others_in (world_versions v w)) (map (block_versions v) w.blocks)
     ≡ entries_of c w.registry s last frame (others_in w) w.blocks =
-    ap₂ (λ o ms. flat_map (λ m. entries_at m (said_of w.registry s o frame m)) ms) others (met_same c d v w.registry s last frame (others_in w) 0 w.blocks alike) in
+    ap₂ (λ o ms. flat_map (λ m. entries_at m (recorded_of w.registry s o frame m)) ms) others (met_same c d v w.registry s last frame (others_in w) 0 w.blocks alike) in
     ap₂ (λ (x : ℕ × List Block) (y : ℕ × ℕ × List Entry).
-    (let r : Ran = record { world = record (world_versions v w) { moment = x.0; blocks = x.1 }; visits = y.0; passing = y.1; entries = y.2 } in r))
+    (let r : RunResult = record { world = record (world_versions v w) { moment = x.0; blocks = x.1 }; visits = y.0; passing = y.1; entries = y.2 } in r))
     (ap₂ (λ n bs. (n, bs)) next blocks)
     (ap₂ (λ n (z : ℕ × List Entry). (n, z.0, z.1)) (visits_same c d v w.registry s last w.blocks alike) (ap₂ (λ n es. (n, es)) (passing_same c d v w.registry s last w.blocks) entries))
 
@@ -127,7 +124,7 @@ later_same first m l version m_is l_is =
     by false true e f h = sym e ∙ h.1 (ltb-true l m f)
 
 pub versions_run : (first : ℕ) (s : SystemEntry) (last : Option ℕ) (frame : ℕ) (w : World) → IsVersion first → IsLast last → HasMoments w
-    → run versions s (option_map (version_of first) last) frame (world_versions (version_of first) w) ≡ ran_versions (version_of first) (run (moments first) s last frame w)
+    → run versions s (option_map (version_of first) last) frame (world_versions (version_of first) w) ≡ run_versions (version_of first) (run (moments first) s last frame w)
 versions_run first s last frame w version last_is has =
     run_same (moments first) versions (version_of first) s last frame w
     (sym (version_of-next first w.moment has.now))

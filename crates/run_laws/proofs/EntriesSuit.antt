@@ -29,9 +29,16 @@ use Rattle.expr_trees.specs.declared.tree.RefExpr.{RefExpr}
 use Rattle.expr_trees.specs.declared.tree.RefExpr.TheVariants as refs
 use Rattle.expr_trees.specs.declared.tree.ValueExpr.{ValueExpr}
 use Rattle.expr_trees.specs.declared.tree.ValueExpr.TheVariants as values
-use Rattle.run_model.specs.Commands.{Target, Live, Placeholder, Given, Does, target_of, given_ref, given_of, givens_from, part_given, deed_of}
+use Rattle.scenario_record.specs.declared.record.CommandEntry.{CommandEntry}
+use Rattle.scenario_record.specs.declared.record.SystemEntry.{SystemEntry}
+use Rattle.world_model.specs.World.{World}
+use Rattle.run_model.specs.Clock.{Clock}
+use Rattle.run_model.specs.Job.{own_of, others_in}
+use Rattle.run_model.specs.Commands.{Target, Live, Placeholder, GivenValue, ActsOn, Recorded, target_of, given_ref, given_of, givens_from, part_given, change_of, is_recorded, recorded_as, recorded_from}
+use Rattle.run_model.specs.Run.{MatchedRow, Entry, RunResult, entries_at, cells_after, recorded_of, matched, run}
 use Rattle.run_model.specs.Playback.{value_given, operation_of}
-use Rattle.run_laws.specs.Suits.{IsOfKind, AreOfKinds, PartSuits, CommandSuits, OperationSuits}
+use Rattle.run_laws.specs.Suits.{IsOfKind, AreOfKinds, PartSuits, CommandSuits, OperationSuits, AllSuit, SystemSuits}
+use Rattle.run_laws.proofs.Order.{in_flat_map}
 use Rattle.run_laws.proofs.RunLawful.{fit_fits}
 
 ref_fits : (kind : FieldKind) → is_ref_kind kind ≡ true → (e : Entity) → fits_field kind (Ref e) ≡ true
@@ -115,7 +122,7 @@ module _ (registry : List TypeInfo) (own : OwnRow) (others : OtherRows) (made : 
   types_same [] = refl
   types_same (p ∷ ps) = ap (λ ts. p.ty.0 ∷ ts) (types_same ps)
 
-  on_target : (t : Target) (a : Act Given) → ((e : Entity) → OperationSuits registry (operation_of made (Does (Live e) a))) → OperationSuits registry (operation_of made (Does t a))
+  on_target : (t : Target) (a : Act GivenValue) → ((e : Entity) → OperationSuits registry (operation_of made (ActsOn (Live e) a))) → OperationSuits registry (operation_of made (ActsOn t a))
   on_target (Live e) a h = h e
   on_target (Placeholder k) a h = by (made k)
     where
@@ -123,7 +130,7 @@ module _ (registry : List TypeInfo) (own : OwnRow) (others : OtherRows) (made : 
       by None = tt
       by (Some e) = h e
 
-  pub deed_suits : (act : CommandText) → CommandSuits registry act → OperationSuits registry (operation_of made (deed_of registry own others act))
+  pub deed_suits : (act : CommandText) → CommandSuits registry act → OperationSuits registry (operation_of made (change_of registry own others act))
   deed_suits (texts.Create name ps) h = (parts_fit ps h.0, subst AreDistinct (sym (types_same ps)) h.1)
   deed_suits (texts.Destroy r) h = on_target (target_of own r) Destroy (λ e. tt)
   deed_suits (texts.Add r p) h = on_target (target_of own r) (Add (part_given registry own others p)) (λ e. part_fits p h)
@@ -133,3 +140,32 @@ module _ (registry : List TypeInfo) (own : OwnRow) (others : OtherRows) (made : 
   deed_suits (texts.Enable r ty) h = on_target (target_of own r) (SetEnabled ty.0 true) (λ e. h)
   deed_suits (texts.Disable r ty) h = on_target (target_of own r) (SetEnabled ty.0 false) (λ e. h)
   deed_suits (texts.Instantiate name r) h = on_target (target_of own r) Instantiate (λ e. tt)
+
+-- ---- entries
+
+module _ (registry : List TypeInfo) (own : OwnRow) (others : OtherRows) where
+  -- each record comes from one of the commands
+  said_by : (n : ℕ) (recorded : List ℕ) (cs : List CommandEntry) (d : Recorded) → In d (recorded_from registry own others n recorded cs)
+      → (c : CommandEntry) × In c cs × (d.change ≡ change_of registry own others c.act)
+  said_by n recorded [] d h = absurd h
+  said_by n recorded (c ∷ cs) d h = by (is_recorded registry own others recorded c) h (λ also. said_by (n + 1) also cs d)
+    where
+      by : (b : Bool) → In d ((if b then recorded_as registry own others n c ∷ [] else []) ++ recorded_from registry own others (n + 1) (if b then n ∷ recorded else recorded) cs)
+          → ((also : List ℕ) → In d (recorded_from registry own others (n + 1) also cs) → (k : CommandEntry) × In k cs × (d.change ≡ change_of registry own others k.act))
+          → (k : CommandEntry) × In k (c ∷ cs) × (d.change ≡ change_of registry own others k.act)
+      by true (inl e) rest = (c, inl refl, ap (λ (x : Recorded). x.change) e)
+      by true (inr i) rest = let (k, j, f) = rest (n ∷ recorded) i in (k, inr j, f)
+      by false i rest = let (k, j, f) = rest recorded i in (k, inr j, f)
+
+pub entries_suit : (clock : Clock) (s : SystemEntry) (last : Option ℕ) (frame : ℕ) (w : World) → SystemSuits w.registry s → AllSuit w.registry (run clock s last frame w).entries
+unfolding run
+entries_suit clock s last frame w suits x i made =
+    let (m, j, k) = in_flat_map (λ m. entries_at m (recorded_of w.registry s (others_in w) frame m)) x (matched clock w.registry s last 0 w.blocks) i in
+    let (d, l, e) = in_map (λ command. (let y : Entry = record { item = m.item; place = m.place; command = command } in y)) x (recorded_of w.registry s (others_in w) frame m) k in
+    let (c, n, f) = said_by w.registry (own m) (others_in w) 0 [] s.command d l in
+    subst (λ change. OperationSuits w.registry (operation_of made change)) (sym (ap (λ (y : Entry). y.command.change) e ∙ f))
+    (deed_suits w.registry (own m) (others_in w) made c.act (suits.commands c n))
+  where
+    own : MatchedRow → OwnRow
+    own m = own_of w.registry (record { frame = frame; item = m.item; place = m.place }) m.at.home m.at.row.entity
+        (cells_after w.registry s (others_in w) (record { frame = frame; item = m.item; place = m.place }) m.at)

@@ -14,7 +14,7 @@ use Rattle.ent_types.specs.Fitting.{null_entity}
 use Rattle.world_model.specs.Part.{PartOf}
 use Rattle.world_model.specs.Row.{Cell, Row}
 use Rattle.world_model.specs.World.{Block, World}
-use Rattle.world_model.specs.Found.{Found}
+use Rattle.world_model.specs.Found.{Found, placed}
 use Rattle.world_model.specs.Enter.{enter}
 use Rattle.world_model.specs.Leave.{leave}
 use Rattle.world_model.specs.Write.{rewrite}
@@ -26,12 +26,12 @@ use Rattle.scenario_record.specs.declared.record.SystemEntry.{SystemEntry}
 use Rattle.run_model.specs.declared.lines.NoteLine.TheVariants.{CommandSkip, Unplayed, KeyShared}
 use Rattle.run_model.specs.Clock.{moments}
 use Rattle.run_model.specs.Query.{matches, passes, has_shared, is_visited}
-use Rattle.run_model.specs.Commands.{Live, Placeholder, MadeBy, Deed, Creates, Does}
+use Rattle.run_model.specs.Commands.{Live, Placeholder, MadeBy, Change, Creates, ActsOn}
 use Rattle.run_model.specs.Run.{Entry, run}
 use Rattle.run_model.specs.Buffers.{arranged, shared_key}
-use Rattle.run_model.specs.Playback.{played}
+use Rattle.run_model.specs.Playback.{playback}
 use Rattle.run_model.specs.Tasks.{runs_in}
-use Rattle.run_model.specs.Frames.{Buffer, State, Stops, Noted, buffers_of, point_played, end_of, Finished}
+use Rattle.run_model.specs.Frames.{Buffer, State, Stops, Noted, buffers_of, after_point, after_system, end_of, Finished}
 use Rattle.run_model.specs.Phases.{conflicts, phases}
 
 -- ---- types: 0 Disabled, 1 Prefab, 2 SceneTag, 3 P(v:i32), 4 the enableable tag Act, 5 Link(to:ref), 6 the shared Team(id:i64)
@@ -237,13 +237,35 @@ a_run : run (moments 1) points_home None 1 links ≡ (record {
 unfolding run
 a_run = refl
 
+-- items are the visited blocks alone: the first block has no row that matches
+items_are_visited_blocks : map (λ (m : MatchedRow). (m.item, m.place)) (matched (moments 1) registry points_home None 0
+    (record {
+      home = record { types = 4 ∷ 5 ∷ []; shared = [] };
+      marks = record { type_id = 4; moment = 1 } ∷ record { type_id = 5; moment = 1 } ∷ [];
+      rows = link 2 null_entity true ∷ [];
+      order = 1;
+    } ∷ record {
+      home = record { types = 4 ∷ 5 ∷ []; shared = [] };
+      marks = record { type_id = 4; moment = 1 } ∷ record { type_id = 5; moment = 1 } ∷ [];
+      rows = link 1 null_entity true ∷ link 0 null_entity false ∷ [];
+      order = 1;
+    } ∷ []))
+    ≡ (0, 1) ∷ []
+items_are_visited_blocks = refl
+
+-- the moment of a run is kept as the last one of its system
+the_last_run_is_kept : (after_system (moments 1) (λ types. 128) false 1 0 points_home (record { world = links; lasts = None ∷ None ∷ []; waiting = []; loads = []; lines = [] })).lasts
+    ≡ Some 5 ∷ None ∷ []
+unfolding run
+the_last_run_is_kept = refl
+
 -- ---- buffers
 
 abbrev entry : ℤ → ℕ → ℕ → ℕ → Entry
 entry key item place number = record {
   item = item;
   place = place;
-  said = record { key = key; point = EndSimulation; number = number; deed = Does (Live (entity 0)) Destroy };
+  command = record { key = key; point = EndSimulation; number = number; change = ActsOn (Live (entity 0)) Destroy };
 }
 
 in_playback_order : arranged (entry (pos 0) 0 0 0 ∷ entry (negsuc 1) 0 2 0 ∷ entry (pos 0) 0 0 1 ∷ entry (negsuc 0) 0 1 0 ∷ entry (pos 0) 1 0 0 ∷ entry (pos 0) 0 3 0 ∷ [])
@@ -262,8 +284,8 @@ the_least_key_and_items = refl
 
 -- ---- playback: create n, set self Link(n), destroy n, destroy n
 
-abbrev says : ℕ → Deed → Entry
-says number deed = record { item = 0; place = 0; said = record { key = pos 0; point = EndSimulation; number = number; deed = deed } }
+abbrev says : ℕ → Change → Entry
+says number change = record { item = 0; place = 0; command = record { key = pos 0; point = EndSimulation; number = number; change = change } }
 
 abbrev one_link : World
 one_link = record {
@@ -291,25 +313,50 @@ linked to = record one_link {
 }
 
 abbrev set_link : Entry
-set_link = says 1 (Does (Live (entity 0)) (Set (record { type_id = 5; values = MadeBy 0 ∷ [] })))
+set_link = says 1 (ActsOn (Live (entity 0)) (Set (record { type_id = 5; values = MadeBy 0 ∷ [] })))
 
 abbrev destroy_made : ℕ → Entry
-destroy_made number = says number (Does (Placeholder 0) Destroy)
+destroy_made number = says number (ActsOn (Placeholder 0) Destroy)
 
-placeholders_are_replaced : (played (λ types. 128) one_link (says 0 (Creates []) ∷ set_link ∷ destroy_made 2 ∷ destroy_made 3 ∷ [])).world
+placeholders_are_replaced : (playback (λ types. 128) one_link (says 0 (Creates []) ∷ set_link ∷ destroy_made 2 ∷ destroy_made 3 ∷ [])).world
     ≡ record (linked (entity 1)) { free = record { index = 1; version = 2 } ∷ []; made = 2 }
-unfolding played arranged operate enter leave rewrite
+unfolding playback arranged operate enter leave rewrite
 placeholders_are_replaced = refl
 
-the_second_destroy_is_skipped : (played (λ types. 128) one_link (says 0 (Creates []) ∷ set_link ∷ destroy_made 2 ∷ destroy_made 3 ∷ [])).notes
+the_second_destroy_is_skipped : (playback (λ types. 128) one_link (says 0 (Creates []) ∷ set_link ∷ destroy_made 2 ∷ destroy_made 3 ∷ [])).notes
     ≡ record { entry = destroy_made 3; cause = NoEntity } ∷ []
-unfolding played arranged operate enter leave rewrite
+unfolding playback arranged operate enter leave rewrite
 the_second_destroy_is_skipped = refl
 
 -- a target that wasn't made is skipped, and as a value it is null
-what_wasnt_made : (played (λ types. 128) (linked (entity 9)) (set_link ∷ destroy_made 2 ∷ [])).world ≡ linked null_entity
-unfolding played arranged operate enter leave rewrite
+what_wasnt_made : (playback (λ types. 128) (linked (entity 9)) (set_link ∷ destroy_made 2 ∷ [])).world ≡ linked null_entity
+unfolding playback arranged operate enter leave rewrite
 what_wasnt_made = refl
+
+-- two rows that each make an entity and link to it
+
+abbrev two_links : World
+two_links = record one_link {
+  blocks = record {
+    home = record { types = 5 ∷ []; shared = [] };
+    marks = record { type_id = 5; moment = 1 } ∷ [];
+    rows = row 0 (cell 5 (Ref null_entity ∷ []) false ∷ []) ∷ row 1 (cell 5 (Ref null_entity ∷ []) false ∷ []) ∷ [];
+    order = 1;
+  } ∷ [];
+  made = 2;
+}
+
+abbrev at_row : ℕ → ℕ → Change → Entry
+at_row place number change = record { item = 0; place = place; command = record { key = pos 0; point = EndSimulation; number = number; change = change } }
+
+abbrev links_itself : ℕ → Entry
+links_itself place = at_row place 1 (ActsOn (Live (entity place)) (Set (record { type_id = 5; values = MadeBy 0 ∷ [] })))
+
+each_row_has_its_own : map (λ (x : Found). x.row.cells)
+    (placed (playback (λ types. 128) two_links (at_row 1 0 (Creates []) ∷ links_itself 1 ∷ at_row 0 0 (Creates []) ∷ links_itself 0 ∷ [])).world.blocks)
+    ≡ (cell 5 (Ref (entity 2) ∷ []) false ∷ []) ∷ (cell 5 (Ref (entity 3) ∷ []) false ∷ []) ∷ [] ∷ [] ∷ []
+unfolding playback arranged operate enter leave rewrite
+each_row_has_its_own = refl
 
 -- ---- frames
 
@@ -317,7 +364,7 @@ every_second_frame : map (λ frame. runs_in frame (record (asks [] [] [] [] []) 
 every_second_frame = refl
 
 abbrev to_point : Point → ℕ → Entry
-to_point point number = record { item = 0; place = 0; said = record { key = pos 0; point = point; number = number; deed = Does (Live (entity 9)) Destroy } }
+to_point point number = record { item = 0; place = 0; command = record { key = pos 0; point = point; number = number; change = ActsOn (Live (entity 9)) Destroy } }
 
 -- one buffer for each point to which something goes, in the order of the points
 two_buffers : map (λ (b : Buffer). b.entries) (buffers_of 0 (asks [] [] [] [] []) 1 (to_point EndSimulation 0 ∷ to_point BeginSimulation 1 ∷ to_point EndSimulation 2 ∷ []))
@@ -331,17 +378,17 @@ abbrev waiting : List Buffer → State
 waiting buffers = record { world = one_link; lasts = None ∷ []; waiting = buffers; loads = []; lines = [] }
 
 -- a point plays its own buffers; what goes to another point stays and is unplayed at the end
-unplayed_at_the_end : end_of (point_played (moments 1) (λ types. 128) false 3 EndSimulation
+unplayed_at_the_end : end_of (after_point (moments 1) (λ types. 128) false 3 EndSimulation
     (waiting (waits EndSimulation (to_point EndSimulation 4 ∷ []) ∷ waits BeginSimulation (to_point BeginSimulation 1 ∷ []) ∷ [])))
     ≡ Finished (Noted (CommandSkip 3 [] EndSimulation 0 0 4 NoEntity) ∷ Noted (Unplayed 1 [] BeginSimulation 1) ∷ []) (record one_link { moment = 8 })
-unfolding played arranged operate shared_key
+unfolding playback arranged operate shared_key
 unplayed_at_the_end = refl
 
 -- a shared key ends the run, after the buffers before it
-ends_at_a_shared_key : point_played (moments 1) (λ types. 128) false 2 EndSimulation
+ends_at_a_shared_key : after_point (moments 1) (λ types. 128) false 2 EndSimulation
     (waiting (waits EndSimulation (to_point EndSimulation 4 ∷ []) ∷ waits EndSimulation (entry (pos 7) 0 0 0 ∷ entry (pos 7) 1 0 0 ∷ []) ∷ []))
     ≡ Stops (Noted (CommandSkip 2 [] EndSimulation 0 0 4 NoEntity) ∷ Noted (KeyShared 2 [] EndSimulation (pos 7) 0 1) ∷ [])
-unfolding played arranged operate shared_key
+unfolding playback arranged operate shared_key
 ends_at_a_shared_key = refl
 
 -- ---- phases: one writes Link; one asks for the enableable tag Act; one asks for Link alone, which it neither reads nor names

@@ -4,10 +4,13 @@ pub mod Sorts
 pub mod Arrange
 pub mod Order
 pub mod Clocks
+pub mod StepClocks
 pub mod Agree
 pub mod RunAgree
 pub mod Phases
+pub mod PhaseStep
 pub mod Examples
 pub mod RunLawful
 pub mod PlayLawful
 pub mod EntriesSuit
+pub mod FrameLawful

@@ -16,9 +16,9 @@ use Rattle.scenario_record.specs.declared.record.SystemEntry.{SystemEntry}
 use Rattle.run_model.specs.Clock.{Clock}
 use Rattle.run_model.specs.Query.{matches, is_visited}
 use Rattle.run_model.specs.Job.{Spot, own_of, others_in, fitted, Text, Assigns, Switches, texts_of, written_type, writes, after_text, after_texts}
-use Rattle.run_model.specs.Run.{Met, Entry, entries_at, cells_after, rows_after, visited, said_of, met_rows, item_after, met, blocks_after, run}
+use Rattle.run_model.specs.Run.{MatchedRow, Entry, entries_at, cells_after, rows_after, visited, recorded_of, matched_in, item_after, matched, blocks_after, run}
 use Rattle.run_model.specs.Touched.{named_types}
-use Rattle.run_model.specs.Phases.{reads, touches, conflicts, Turn, IsFree, AreFree, AreApart, Count, count_of, turn_ran, world_each, counts_each, moment_after, Item, rows_ran, turn_items, put_cells, put_rows, with_item, with_items, joined_from, joined, item_entries, items_count, joined_counts}
+use Rattle.run_model.specs.Phases.{reads, touches, conflicts, Turn, IsFree, AreFree, AreApart, RunOutput, output_of, turn_result, world_each, outputs_each, moment_after, Item, rows_after_first, turn_items, put_cells, put_rows, with_item, with_items, joined_from, joined, item_entries, items_output, joined_outputs}
 use Rattle.run_laws.specs.Agree.{Both, CellAgree, MarkAgree, CellsAgree, RowAgree, BlockAgree, OthersAgree}
 use Rattle.run_laws.proofs.Lists.{both_self, both_then, both_less, in_left, has_in, in_has, Within}
 use Rattle.run_laws.proofs.RunAgree.{Touched, others_agree, rows_agree, entries_agree, visited_agree, visits_agree, passing_agree}
@@ -119,7 +119,7 @@ module _ (clock : Clock) (registry : List TypeInfo) (s : SystemEntry) (last : Op
   hits home r = matches registry s (record { home = home; row = r })
 
   rows_whole : (o : OtherRows) (item : ℕ) (home : Home) (k n : ℕ) (rs : List Row) → n ≡ tally (hits home) rs
-      → rows_ran clock registry frame o s item home k n rs ≡ rows_after registry s o frame item home k rs
+      → rows_after_first clock registry frame o s item home k n rs ≡ rows_after registry s o frame item home k rs
   rows_whole o item home k zero [] e = refl
   rows_whole o item home k (suc n) [] e = refl
   rows_whole o item home k zero (r ∷ rs) e = by (hits home r) e (rows_whole o item home (k + 1) zero rs)
@@ -132,20 +132,20 @@ module _ (clock : Clock) (registry : List TypeInfo) (s : SystemEntry) (last : Op
   rows_whole o item home k (suc n) (r ∷ rs) e = by (hits home r) e (λ m. rows_whole o item home (k + 1) m rs)
     where
       by : (b : Bool) → suc n ≡ one_if b + tally (hits home) rs
-          → ((m : ℕ) → m ≡ tally (hits home) rs → rows_ran clock registry frame o s item home (k + 1) m rs ≡ rows_after registry s o frame item home (k + 1) rs)
-          → (if b then (record r { cells = if b then cells_after registry s o (record { frame = frame; item = item; place = k }) (record { home = home; row = r }) else r.cells }) ∷ rows_ran clock registry frame o s item home (k + 1) n rs
-          else r ∷ rows_ran clock registry frame o s item home (k + 1) (suc n) rs)
+          → ((m : ℕ) → m ≡ tally (hits home) rs → rows_after_first clock registry frame o s item home (k + 1) m rs ≡ rows_after registry s o frame item home (k + 1) rs)
+          → (if b then (record r { cells = if b then cells_after registry s o (record { frame = frame; item = item; place = k }) (record { home = home; row = r }) else r.cells }) ∷ rows_after_first clock registry frame o s item home (k + 1) n rs
+          else r ∷ rows_after_first clock registry frame o s item home (k + 1) (suc n) rs)
           ≡ (record r { cells = if b then cells_after registry s o (record { frame = frame; item = item; place = k }) (record { home = home; row = r }) else r.cells })
           ∷ rows_after registry s o frame item home (k + 1) rs
       by true e rest = ap (λ (qs : List Row). (record r { cells = cells_after registry s o (record { frame = frame; item = item; place = k }) (record { home = home; row = r }) }) ∷ qs) (rest n (omega arith))
       by false e rest = ap (λ (qs : List Row). r ∷ qs) (rest (suc n) (omega arith))
 
-  met_count : (item : ℕ) (home : Home) (k : ℕ) (rs : List Row) → length (met_rows registry s item home k rs) ≡ tally (hits home) rs
+  met_count : (item : ℕ) (home : Home) (k : ℕ) (rs : List Row) → length (matched_in registry s item home k rs) ≡ tally (hits home) rs
   met_count item home k [] = refl
   met_count item home k (r ∷ rs) = by (hits home r) (met_count item home (k + 1) rs)
     where
-      by : (b : Bool) → length (met_rows registry s item home (k + 1) rs) ≡ tally (hits home) rs
-          → length ((if b then record { item = item; place = k; at = record { home = home; row = r } } ∷ [] else []) ++ met_rows registry s item home (k + 1) rs) ≡ one_if b + tally (hits home) rs
+      by : (b : Bool) → length (matched_in registry s item home (k + 1) rs) ≡ tally (hits home) rs
+          → length ((if b then record { item = item; place = k; at = record { home = home; row = r } } ∷ [] else []) ++ matched_in registry s item home (k + 1) rs) ≡ one_if b + tally (hits home) rs
       by true h = omega arith
       by false h = omega arith
 
@@ -159,22 +159,22 @@ module _ (clock : Clock) (registry : List TypeInfo) (s : SystemEntry) (last : Op
   flat_append f [] ys = refl
   flat_append f (x ∷ xs) ys = ap (λ zs. f x ++ zs) (flat_append f xs ys) ∙ sym (append_assoc (f x) (flat_map f xs) (flat_map f ys))
 
-  abbrev tells : OtherRows → Met → List Entry
-  tells o m = entries_at m (said_of registry s o frame m)
+  abbrev tells : OtherRows → MatchedRow → List Entry
+  tells o m = entries_at m (recorded_of registry s o frame m)
 
   pub entries_whole : (o : OtherRows) (now item : ℕ) (bs : List Block)
       → flat_map (item_entries clock registry frame o) (turn_items clock registry frame o (record { system = s; last = last }) now item bs)
-      ≡ flat_map (tells o) (met clock registry s last item bs)
+      ≡ flat_map (tells o) (matched clock registry s last item bs)
   entries_whole o now item [] = refl
   entries_whole o now item (b ∷ bs) =
       ap₂ (λ xs ys. xs ++ ys) (by (is_visited registry clock s last b)) (entries_whole o now (item_after clock registry s last item b) bs)
-      ∙ sym (flat_append (tells o) (if is_visited registry clock s last b then met_rows registry s item b.home 0 b.rows else []) (met clock registry s last (item_after clock registry s last item b) bs))
+      ∙ sym (flat_append (tells o) (if is_visited registry clock s last b then matched_in registry s item b.home 0 b.rows else []) (matched clock registry s last (item_after clock registry s last item b) bs))
     where
       i : Item
       i = record { turn = record { system = s; last = last }; now = now; number = item; block = b }
 
-      by : (t : Bool) → item_entries clock registry frame o (if t then Some i else None) ≡ flat_map (tells o) (if t then met_rows registry s item b.home 0 b.rows else [])
-      by true = ap (flat_map (tells o)) (take_whole (tally (hits b.home) b.rows) (met_rows registry s item b.home 0 b.rows) (met_count item b.home 0 b.rows))
+      by : (t : Bool) → item_entries clock registry frame o (if t then Some i else None) ≡ flat_map (tells o) (if t then matched_in registry s item b.home 0 b.rows else [])
+      by true = ap (flat_map (tells o)) (take_whole (tally (hits b.home) b.rows) (matched_in registry s item b.home 0 b.rows) (met_count item b.home 0 b.rows))
       by false = refl
 
 -- ---- what agrees with one on some types and with another on the others is put
@@ -283,11 +283,11 @@ module _ (clock : Clock) (frame : ℕ) (w : World) where
       (blocks_keep clock w.registry j.system j.last frame (others_in (at now bs)) (clock.next now) 0 bs))
 
   count_is : (j : Turn) (now : ℕ) (bs : List Block) → Fresh j bs
-      → count_of (turn_ran clock frame j (at now bs)) ≡ items_count clock frame w j (turn_items clock w.registry frame (others_in w) j (clock.next now) 0 w.blocks)
+      → output_of (turn_result clock frame j (at now bs)) ≡ items_output clock frame w j (turn_items clock w.registry frame (others_in w) j (clock.next now) 0 w.blocks)
   unfolding run
   count_is j now bs fresh =
       let T : ℕ → Type 0 = Touched clock w.registry j.system j.last frame in
-      ap₂ (λ (v : ℕ) (pe : ℕ × List Entry). let c : Count = record { visits = v; passing = pe.0; entries = pe.1 } in c)
+      ap₂ (λ (v : ℕ) (pe : ℕ × List Entry). let c : RunOutput = record { visits = v; passing = pe.0; entries = pe.1 } in c)
       (sym (visits_agree clock w.registry j.system j.last frame T (λ t i. i) w.blocks bs fresh)
       ∙ visits_are clock w.registry frame (others_in w) (others_in w) j (clock.next now) 0 w.blocks)
       (ap₂ (λ (n : ℕ) (es : List Entry). (n, es))
@@ -297,7 +297,7 @@ module _ (clock : Clock) (frame : ℕ) (w : World) where
 
   fold_is : (js : List Turn) → AreFree w.registry js → (now : ℕ) (bs : List Block) → ((k : Turn) → In k js → Fresh k bs)
       → (world_each clock frame js (at now bs) ≡ at (moment_after clock frame js now) (joined_from clock w.registry frame (others_in w) w.blocks now js bs))
-      × (counts_each clock frame js (at now bs) ≡ joined_counts clock frame w now js)
+      × (outputs_each clock frame js (at now bs) ≡ joined_outputs clock frame w now js)
   unfolding run
   fold_is [] free now bs fresh = (refl, refl)
   fold_is (j ∷ js) free now bs fresh =
@@ -305,11 +305,11 @@ module _ (clock : Clock) (frame : ℕ) (w : World) where
       let T : ℕ → Type 0 = Touched clock w.registry j.system j.last frame in (
         rest.0 ∙ ap (λ cs. at (moment_after clock frame js (clock.next now)) (joined_from clock w.registry frame (others_in w) w.blocks (clock.next now) js cs))
             (blocks_are clock w.registry frame (others_in w) (others_in (at now bs)) j (others_agree T w.blocks bs (fresh j (inl refl))) (clock.next now) 0 w.blocks bs (fresh j (inl refl))),
-        ap₂ (λ (c : Count) cs. c ∷ cs) (count_is j now bs (fresh j (inl refl))) rest.1,
+        ap₂ (λ (c : RunOutput) cs. c ∷ cs) (count_is j now bs (fresh j (inl refl))) rest.1,
       )
 
   pub phase_law : (js : List Turn) → AreFree w.registry js
-      → (world_each clock frame js w ≡ joined clock frame js w) × (counts_each clock frame js w ≡ joined_counts clock frame w w.moment js)
+      → (world_each clock frame js w ≡ joined clock frame js w) × (outputs_each clock frame js w ≡ joined_outputs clock frame w w.moment js)
   unfolding joined
   phase_law js free =
       fold_is js free w.moment w.blocks (λ k i. both_self (BlockAgree (Touched clock w.registry k.system k.last frame)) (block_self (Touched clock w.registry k.system k.last frame)) w.blocks)

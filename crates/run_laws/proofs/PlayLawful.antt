@@ -13,7 +13,7 @@ use Rattle.world_model.specs.Lawful.{IsLawful, HasRoomForParts, Suits}
 use Rattle.world_laws.proofs.Kept.{operate_lawful}
 use Rattle.run_model.specs.Run.{Entry}
 use Rattle.run_model.specs.Buffers.{before, arranged}
-use Rattle.run_model.specs.Playback.{Playing, made_for, operation_of, done_by, answer_of, entry_played, played_on, played}
+use Rattle.run_model.specs.Playback.{PlaybackState, made_for, operation_of, done_by, answer_of, after_entry, after_entries, playback}
 use Rattle.run_laws.specs.Suits.{OperationSuits, EntrySuits, AllSuit}
 use Rattle.run_laws.proofs.Sorts.{in_sorted}
 
@@ -48,22 +48,22 @@ module _ (capacity : List ℕ → ℕ) (room : HasRoomForParts capacity) where
     lawful : IsLawful capacity w
     same : w.registry ≡ registry
 
-  on_played : (registry : List TypeInfo) (p : Playing) (entries : List Entry) → AllSuit registry entries → IsPlayed registry p.world → IsPlayed registry (played_on capacity p entries).world
+  on_played : (registry : List TypeInfo) (p : PlaybackState) (entries : List Entry) → AllSuit registry entries → IsPlayed registry p.world → IsPlayed registry (after_entries capacity p entries).world
   on_played registry p [] suits h = h
   on_played registry p (x ∷ xs) suits h =
-      on_played registry (entry_played capacity p x) xs (λ y i. suits y (inr i)) (record {
-        lawful = done_lawful p.world (operation_of (made_for p.makers x) x.said.deed)
-            (subst (λ r. OperationSuits r (operation_of (made_for p.makers x) x.said.deed)) (sym h.same) (suits x (inl refl) (made_for p.makers x))) h.lawful;
-        same = done_registry p.world (operation_of (made_for p.makers x) x.said.deed) ∙ h.same;
+      on_played registry (after_entry capacity p x) xs (λ y i. suits y (inr i)) (record {
+        lawful = done_lawful p.world (operation_of (made_for p.made_entities x) x.command.change)
+            (subst (λ r. OperationSuits r (operation_of (made_for p.made_entities x) x.command.change)) (sym h.same) (suits x (inl refl) (made_for p.made_entities x))) h.lawful;
+        same = done_registry p.world (operation_of (made_for p.made_entities x) x.command.change) ∙ h.same;
       })
 
-  played_is : (w : World) (entries : List Entry) → AllSuit w.registry entries → IsLawful capacity w → IsPlayed w.registry (played capacity w entries).world
-  unfolding played arranged
+  played_is : (w : World) (entries : List Entry) → AllSuit w.registry entries → IsLawful capacity w → IsPlayed w.registry (playback capacity w entries).world
+  unfolding playback arranged
   played_is w entries suits lawful =
-      on_played w.registry (record { world = w; makers = []; notes = [] }) (arranged entries) (λ x i. suits x (in_sorted before x entries i)) (record { lawful = lawful; same = refl })
+      on_played w.registry (record { world = w; made_entities = []; notes = [] }) (arranged entries) (λ x i. suits x (in_sorted before x entries i)) (record { lawful = lawful; same = refl })
 
-  pub played_lawful : (w : World) (entries : List Entry) → AllSuit w.registry entries → IsLawful capacity w → IsLawful capacity (played capacity w entries).world
+  pub played_lawful : (w : World) (entries : List Entry) → AllSuit w.registry entries → IsLawful capacity w → IsLawful capacity (playback capacity w entries).world
   played_lawful w entries suits lawful = (played_is w entries suits lawful).lawful
 
-  pub played_registry : (w : World) (entries : List Entry) → AllSuit w.registry entries → IsLawful capacity w → (played capacity w entries).world.registry ≡ w.registry
+  pub played_registry : (w : World) (entries : List Entry) → AllSuit w.registry entries → IsLawful capacity w → (playback capacity w entries).world.registry ≡ w.registry
   played_registry w entries suits lawful = (played_is w entries suits lawful).same

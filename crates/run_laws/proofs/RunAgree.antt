@@ -22,8 +22,8 @@ use Rattle.expr_trees.specs.declared.tree.Switch.{Switch}
 use Rattle.run_model.specs.Clock.{Clock}
 use Rattle.run_model.specs.Query.{is_empty, has_shared, is_off, is_on, is_disabled, matches, passes, is_fresh, is_visited}
 use Rattle.run_model.specs.Job.{Spot, own_of, Text, Assigns, Switches, texts_of, writes, after_texts}
-use Rattle.run_model.specs.Commands.{sayings_from}
-use Rattle.run_model.specs.Run.{Met, entries_at, cells_after, said_at, rows_after, visited, said_of, met_rows, item_after, met, blocks_after, entries_of}
+use Rattle.run_model.specs.Commands.{recorded_from}
+use Rattle.run_model.specs.Run.{MatchedRow, entries_at, cells_after, recorded_at, rows_after, visited, recorded_of, matched_in, item_after, matched, blocks_after, entries_of}
 use Rattle.run_model.specs.Touched.{looked_up, own_types, named_types, own_in, looked_in}
 use Rattle.run_model.specs.Phases.{reads, touches}
 use Rattle.run_laws.specs.Agree.{Both, MarkAgree, CellsAgree, RowAgree, BlockAgree, FoundAgree, OthersAgree}
@@ -290,62 +290,62 @@ module _ (clock : Clock) (registry : List TypeInfo) (s : SystemEntry) (last : Op
 
       -- ---- entries
 
-      abbrev MetAgree : Met → Met → Type 0
-      MetAgree m n = (m.item ≡ n.item) × (m.place ≡ n.place) × FoundAgree X m.at n.at
+      abbrev MatchedAgree : MatchedRow → MatchedRow → Type 0
+      MatchedAgree m n = (m.item ≡ n.item) × (m.place ≡ n.place) × FoundAgree X m.at n.at
 
       met_rows_agree : (item : ℕ) (home : Home) (k : ℕ) (rs qs : List Row) → Both (RowAgree X) rs qs
-          → Both MetAgree (met_rows registry s item home k rs) (met_rows registry s item home k qs)
+          → Both MatchedAgree (matched_in registry s item home k rs) (matched_in registry s item home k qs)
       met_rows_agree item home k [] [] h = tt
       met_rows_agree item home k [] (q ∷ qs) h = absurd h
       met_rows_agree item home k (r ∷ rs) [] h = absurd h
       met_rows_agree item home k (r ∷ rs) (q ∷ qs) h =
-          subst (λ b. Both MetAgree (met_rows registry s item home k (r ∷ rs)) ((if b then at q ∷ [] else []) ++ met_rows registry s item home (k + 1) qs)) (matches_agree home r q h.0)
+          subst (λ b. Both MatchedAgree (matched_in registry s item home k (r ∷ rs)) ((if b then at q ∷ [] else []) ++ matched_in registry s item home (k + 1) qs)) (matches_agree home r q h.0)
           (by (matches registry s (record { home = home; row = r })) (met_rows_agree item home (k + 1) rs qs h.1))
         where
-          at : Row → Met
+          at : Row → MatchedRow
           at u = record { item = item; place = k; at = record { home = home; row = u } }
 
-          by : (b : Bool) → Both MetAgree (met_rows registry s item home (k + 1) rs) (met_rows registry s item home (k + 1) qs)
-              → Both MetAgree ((if b then at r ∷ [] else []) ++ met_rows registry s item home (k + 1) rs) ((if b then at q ∷ [] else []) ++ met_rows registry s item home (k + 1) qs)
+          by : (b : Bool) → Both MatchedAgree (matched_in registry s item home (k + 1) rs) (matched_in registry s item home (k + 1) qs)
+              → Both MatchedAgree ((if b then at r ∷ [] else []) ++ matched_in registry s item home (k + 1) rs) ((if b then at q ∷ [] else []) ++ matched_in registry s item home (k + 1) qs)
           by true rest = ((refl, refl, (refl, h.0)), rest)
           by false rest = rest
 
-      met_agree : (item : ℕ) (bs cs : List Block) → Both (BlockAgree X) bs cs → Both MetAgree (met clock registry s last item bs) (met clock registry s last item cs)
+      met_agree : (item : ℕ) (bs cs : List Block) → Both (BlockAgree X) bs cs → Both MatchedAgree (matched clock registry s last item bs) (matched clock registry s last item cs)
       met_agree item [] [] h = tt
       met_agree item [] (c ∷ cs) h = absurd h
       met_agree item (b ∷ bs) [] h = absurd h
       met_agree item (b ∷ bs) (c ∷ cs) h =
-          subst (λ t. Both MetAgree (met clock registry s last item (b ∷ bs)) ((if t then met_rows registry s item c.home 0 c.rows else []) ++ met clock registry s last (if t then item + 1 else item) cs))
+          subst (λ t. Both MatchedAgree (matched clock registry s last item (b ∷ bs)) ((if t then matched_in registry s item c.home 0 c.rows else []) ++ matched clock registry s last (if t then item + 1 else item) cs))
           (visited_agree b c h.0)
           (by (is_visited registry clock s last b) (met_agree (item_after clock registry s last item b) bs cs h.1))
         where
-          by : (t : Bool) → Both MetAgree (met clock registry s last (if t then item + 1 else item) bs) (met clock registry s last (if t then item + 1 else item) cs)
-              → Both MetAgree ((if t then met_rows registry s item b.home 0 b.rows else []) ++ met clock registry s last (if t then item + 1 else item) bs)
-              ((if t then met_rows registry s item c.home 0 c.rows else []) ++ met clock registry s last (if t then item + 1 else item) cs)
+          by : (t : Bool) → Both MatchedAgree (matched clock registry s last (if t then item + 1 else item) bs) (matched clock registry s last (if t then item + 1 else item) cs)
+              → Both MatchedAgree ((if t then matched_in registry s item b.home 0 b.rows else []) ++ matched clock registry s last (if t then item + 1 else item) bs)
+              ((if t then matched_in registry s item c.home 0 c.rows else []) ++ matched clock registry s last (if t then item + 1 else item) cs)
           by true rest =
-              both_append MetAgree (met_rows registry s item b.home 0 b.rows) (met_rows registry s item c.home 0 c.rows)
-              (met clock registry s last (item + 1) bs) (met clock registry s last (item + 1) cs)
-              (subst (λ home. Both MetAgree (met_rows registry s item b.home 0 b.rows) (met_rows registry s item home 0 c.rows)) h.0.0
+              both_append MatchedAgree (matched_in registry s item b.home 0 b.rows) (matched_in registry s item c.home 0 c.rows)
+              (matched clock registry s last (item + 1) bs) (matched clock registry s last (item + 1) cs)
+              (subst (λ home. Both MatchedAgree (matched_in registry s item b.home 0 b.rows) (matched_in registry s item home 0 c.rows)) h.0.0
               (met_rows_agree item b.home 0 b.rows c.rows h.0.3)) rest
           by false rest = rest
 
       -- what rows that agree say at one spot
       pub said_is : (spot : Spot) (home : Home) (r q : Row) → RowAgree X r q
-          → said_at registry s o spot (record { home = home; row = r }) ≡ said_at registry s p spot (record { home = home; row = q })
+          → recorded_at registry s o spot (record { home = home; row = r }) ≡ recorded_at registry s p spot (record { home = home; row = q })
       said_is spot home r q h =
           said_agree X registry spot home r.entity o p others
           (cells_after registry s o spot (record { home = home; row = r })) (cells_after registry s p spot (record { home = home; row = q }))
           (cells_agree spot home r q h) s.command commands_seen 0 []
-          ∙ ap (λ e. sayings_from registry (own_of registry spot home e (cells_after registry s p spot (record { home = home; row = q }))) p 0 [] s.command) h.0
+          ∙ ap (λ e. recorded_from registry (own_of registry spot home e (cells_after registry s p spot (record { home = home; row = q }))) p 0 [] s.command) h.0
 
-      said_same : (m n : Met) → MetAgree m n → entries_at m (said_of registry s o frame m) ≡ entries_at n (said_of registry s p frame n)
+      said_same : (m n : MatchedRow) → MatchedAgree m n → entries_at m (recorded_of registry s o frame m) ≡ entries_at n (recorded_of registry s p frame n)
       said_same m n h =
           ap (entries_at m) (said_is (record { frame = frame; item = m.item; place = m.place }) m.at.home m.at.row n.at.row h.2.1)
-          ∙ (ap (λ home. entries_at m (said_at registry s p (record { frame = frame; item = m.item; place = m.place }) (record { home = home; row = n.at.row }))) h.2.0
-          ∙ ap₂ (λ i k. entries_at (record { item = i; place = k; at = n.at }) (said_at registry s p (record { frame = frame; item = i; place = k }) n.at)) h.0 h.1)
+          ∙ (ap (λ home. entries_at m (recorded_at registry s p (record { frame = frame; item = m.item; place = m.place }) (record { home = home; row = n.at.row }))) h.2.0
+          ∙ ap₂ (λ i k. entries_at (record { item = i; place = k; at = n.at }) (recorded_at registry s p (record { frame = frame; item = i; place = k }) n.at)) h.0 h.1)
 
-      flat_agree : (ms ns : List Met) → Both MetAgree ms ns
-          → flat_map (λ m. entries_at m (said_of registry s o frame m)) ms ≡ flat_map (λ m. entries_at m (said_of registry s p frame m)) ns
+      flat_agree : (ms ns : List MatchedRow) → Both MatchedAgree ms ns
+          → flat_map (λ m. entries_at m (recorded_of registry s o frame m)) ms ≡ flat_map (λ m. entries_at m (recorded_of registry s p frame m)) ns
       flat_agree [] [] h = refl
       flat_agree [] (n ∷ ns) h = absurd h
       flat_agree (m ∷ ms) [] h = absurd h
@@ -353,7 +353,7 @@ module _ (clock : Clock) (registry : List TypeInfo) (s : SystemEntry) (last : Op
 
       pub entries_agree : (bs cs : List Block) → Both (BlockAgree X) bs cs
           → entries_of clock registry s last frame o bs ≡ entries_of clock registry s last frame p cs
-      entries_agree bs cs h = flat_agree (met clock registry s last 0 bs) (met clock registry s last 0 cs) (met_agree 0 bs cs h)
+      entries_agree bs cs h = flat_agree (matched clock registry s last 0 bs) (matched clock registry s last 0 cs) (met_agree 0 bs cs h)
 
     -- ---- counts
 

@@ -235,11 +235,11 @@ module _ (clock : Clock) (registry : List TypeInfo) (s : SystemEntry) (last : Op
       by true = refl
       by false = refl
 
-module _ (capacity : List ℕ → ℕ) (registry : List TypeInfo) (s : SystemEntry) (others : OtherRows) (frame : ℕ) where
-  later_past : (now m : ℕ) → IsPast now m → IsPast (now + 1) m
-  later_past now m h = let a = h.within in record { from_one = h.from_one; within = omega arith }
+later_past : (now m : ℕ) → IsPast now m → IsPast (now + 1) m
+later_past now m h = let a = h.within in record { from_one = h.from_one; within = omega arith }
 
-  later_block : (now : ℕ) (b : Block) → IsLawfulBlock capacity now b → IsLawfulBlock capacity (now + 1) b
+module _ (capacity : List ℕ → ℕ) where
+  pub later_block : (now : ℕ) (b : Block) → IsLawfulBlock capacity now b → IsLawfulBlock capacity (now + 1) b
   later_block now b h = record {
     some = h.some;
     few = h.few;
@@ -248,6 +248,7 @@ module _ (capacity : List ℕ → ℕ) (registry : List TypeInfo) (s : SystemEnt
     order = later_past now b.order h.order;
   }
 
+module _ (capacity : List ℕ → ℕ) (registry : List TypeInfo) (s : SystemEntry) (others : OtherRows) (frame : ℕ) where
   visited_lawful : (now item : ℕ) (b : Block) → IsLawfulBlock capacity now b → IsLawfulBlock capacity (now + 1) (visited registry s others frame (now + 1) item b)
   visited_lawful now item b h = record {
     some = subst (λ n. 1 ≤ n) (sym same) h.some;
@@ -297,5 +298,9 @@ run_lawful capacity first s last frame w suits lawful = record {
         (λ x y h. ap (λ (e : Entity). nat_eq index e.index) h.1.0) (placed w.blocks) (placed after) agree
 
     by : (c b : Block) → In b w.blocks → (c ≡ b) ⊎ ((i : ℕ) × (c ≡ visited w.registry s (others_in w) frame (w.moment + 1) i b)) → IsLawfulBlock capacity (w.moment + 1) c
-    by c b j (inl same) = subst (IsLawfulBlock capacity (w.moment + 1)) (sym same) (later_block capacity w.registry s (others_in w) frame w.moment b (lawful.blocks b j))
+    by c b j (inl same) = subst (IsLawfulBlock capacity (w.moment + 1)) (sym same) (later_block capacity w.moment b (lawful.blocks b j))
     by c b j (inr (i, same)) = subst (IsLawfulBlock capacity (w.moment + 1)) (sym same) (visited_lawful capacity w.registry s (others_in w) frame w.moment i b (lawful.blocks b j))
+
+pub run_registry : (clock : Clock) (s : SystemEntry) (last : Option ℕ) (frame : ℕ) (w : World) → (run clock s last frame w).world.registry ≡ w.registry
+unfolding run
+run_registry clock s last frame w = refl

@@ -5,4 +5,4 @@ use Rattle.run_model.specs.Run.{Entry}
 
 -- no two entries agree in item, place and number
 abbrev pub AreDifferent : List Entry → Type 0
-AreDifferent es = (x y : Entry) → In x es → In y es → x.item ≡ y.item → x.place ≡ y.place → x.said.number ≡ y.said.number → x ≡ y
+AreDifferent es = (x y : Entry) → In x es → In y es → x.item ≡ y.item → x.place ≡ y.place → x.command.number ≡ y.command.number → x ≡ y

@@ -2,3 +2,4 @@ pub mod Agree
 pub mod Entries
 pub mod Versions
 pub mod Suits
+pub mod Lawful

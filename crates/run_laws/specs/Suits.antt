@@ -17,6 +17,7 @@ use Rattle.expr_trees.specs.declared.tree.CommandText.TheVariants as texts
 use Rattle.expr_trees.specs.declared.tree.PartExpr.{PartExpr}
 use Rattle.expr_trees.specs.declared.tree.ValueExpr.{ValueExpr}
 use Rattle.expr_trees.specs.declared.tree.ValueExpr.TheVariants as values
+use Rattle.scenario_record.specs.declared.record.CommandEntry.{CommandEntry}
 use Rattle.scenario_record.specs.declared.record.SystemEntry.{SystemEntry}
 use Rattle.run_model.specs.Run.{Entry}
 use Rattle.run_model.specs.Playback.{operation_of}
@@ -35,7 +36,7 @@ OperationSuits registry (Some operation) = Suits registry operation
 
 -- what playback asks of an entry, whatever entities its placeholders stand for
 abbrev pub EntrySuits : List TypeInfo → Entry → Type 0
-EntrySuits registry x = (made : ℕ → Option Entity) → OperationSuits registry (operation_of made x.said.deed)
+EntrySuits registry x = (made : ℕ → Option Entity) → OperationSuits registry (operation_of made x.command.change)
 
 abbrev pub AllSuit : List TypeInfo → List Entry → Type 0
 AllSuit registry entries = (x : Entry) → In x entries → EntrySuits registry x
@@ -70,3 +71,9 @@ CommandSuits registry (texts.Remove r ty) = IsKnown registry ty.0
 CommandSuits registry (texts.Enable r ty) = IsKnown registry ty.0
 CommandSuits registry (texts.Disable r ty) = IsKnown registry ty.0
 CommandSuits registry (texts.Instantiate name r) = Unit {0}
+
+-- ---- systems
+
+pub record SystemSuits (registry : List TypeInfo) (s : SystemEntry) : Type 0 where
+  pub texts : HasLawfulTexts registry s
+  pub commands : (c : CommandEntry) → In c s.command → CommandSuits registry c.act

@@ -1,11 +1,11 @@
 //! Laws of runs. Each is a function that does nothing, whose contract is the law.
 #![tactic(auto)]
 
-ghost use Rattle.std.specs.Prelude.{◌≡◌, ℕ, Bool, true, List, filter, Option, option_map};
+ghost use Rattle.std.specs.Prelude.{◌≡◌, ℕ, Bool, true, List, map, filter, Option, option_map};
 ghost use Rattle.std.specs.List.Sorted.{IsPermutation, IsSortedBy};
 ghost use Rattle.ent_types.specs.declared.type_info.TypeInfo.{TypeInfo};
 ghost use Rattle.ent_types.specs.Versions.{version_of, IsVersion};
-ghost use Rattle.world_model.specs.Members.{In};
+ghost use Rattle.world_model.specs.Members.{In, AreDistinct};
 ghost use Rattle.world_model.specs.Lawful.{HasRoomForParts, IsLawful};
 ghost use Rattle.world_model.specs.World.{Home, World};
 ghost use Rattle.world_model.specs.Row.{Row};
@@ -16,17 +16,20 @@ ghost use Rattle.scenario_record.specs.declared.record.SystemEntry.{SystemEntry}
 ghost use Rattle.run_model.specs.Clock.{Clock, moments, versions};
 ghost use Rattle.run_model.specs.Query.{matches, passes};
 ghost use Rattle.run_model.specs.Job.{Spot, writes};
-ghost use Rattle.run_model.specs.Run.{Entry, cells_after, said_at, run};
+ghost use Rattle.run_model.specs.Run.{Entry, cells_after, recorded_at, run};
 ghost use Rattle.run_model.specs.Buffers.{before, arranged};
-ghost use Rattle.run_model.specs.Playback.{played};
-ghost use Rattle.run_model.specs.Phases.{touches, Turn, AreApart, world_each, counts_each, joined, joined_counts};
+ghost use Rattle.run_model.specs.Playback.{playback};
+ghost use Rattle.run_model.specs.Tasks.{Task};
+ghost use Rattle.run_model.specs.Frames.{State, Goes, course_after, course_after_all};
+ghost use Rattle.run_model.specs.Phases.{touches, Turn, AreApart, world_each, outputs_each, joined, joined_outputs};
+ghost use Rattle.run_model.specs.PhaseSteps.{Numbered, number_of, tasks_of_phase, turns_of, after_phase};
 ghost use Rattle.run_laws.specs.Agree.{CellsAgree, RowAgree, OthersAgree};
 ghost use Rattle.run_laws.specs.Entries.{AreDifferent};
-ghost use Rattle.run_laws.specs.Suits.{AllSuit, HasLawfulTexts};
-ghost use Rattle.run_laws.specs.Versions.{ran_versions, IsLast, HasMoments};
+ghost use Rattle.run_laws.specs.Lawful.{IsLawfulState, StepSuits, OnGoes};
+ghost use Rattle.run_laws.specs.Suits.{AllSuit, HasLawfulTexts, SystemSuits};
+ghost use Rattle.run_laws.specs.Versions.{run_versions, IsLast, HasMoments, state_versions, course_versions, StateHasMoments};
 
 /// A row that matches has types that pass. So a block with a row that matches is never left out for its types.
-#[tactic(auto, using(crate::proofs::Matches::matches_pass))]
 pub fn rows_that_match_have_types_that_pass()
     ensures { (registry : List TypeInfo) (s : SystemEntry) (x : Found) → matches registry s x ≡ true → passes registry s x.home.types ≡ true }
 {}
@@ -43,11 +46,10 @@ pub fn jobs_read_only_what_the_system_touches()
     ensures { (registry : List TypeInfo) (s : SystemEntry) (o p : OtherRows) → OthersAgree (λ t. In t (touches registry s)) o p
         → (spot : Spot) (home : Home) (r q : Row) → RowAgree (λ t. In t (touches registry s)) r q
         → CellsAgree (λ t. In t (touches registry s)) (cells_after registry s o spot (record { home = home; row = r })) (cells_after registry s p spot (record { home = home; row = q }))
-        × (said_at registry s o spot (record { home = home; row = r }) ≡ said_at registry s p spot (record { home = home; row = q })) }
+        × (recorded_at registry s o spot (record { home = home; row = r }) ≡ recorded_at registry s p spot (record { home = home; row = q })) }
 {}
 
 /// No two entries of a buffer agree in item, row and number. A buffer is some of the entries of one run.
-#[tactic(auto, using(crate::proofs::Order::buffers_differ))]
 pub fn entries_of_a_buffer_differ()
     ensures { (clock : Clock) (s : SystemEntry) (last : Option ℕ) (frame : ℕ) (w : World) (goes : Entry → Bool)
         → AreDifferent (filter goes (run clock s last frame w).entries) }
@@ -59,18 +61,33 @@ pub fn sorted_entries_are_arranged()
 {}
 
 /// Versions of 32 bits stand for moments in a run of a system: it visits the same blocks, and records the same.
-#[tactic(auto, using(crate::proofs::Clocks::versions_run))]
 pub fn versions_stand_for_moments_in_a_run()
     ensures { (first : ℕ) (s : SystemEntry) (last : Option ℕ) (frame : ℕ) (w : World) → IsVersion first → IsLast last → HasMoments w
         → run versions s (option_map (version_of first) last) frame (world_versions (version_of first) w)
-        ≡ ran_versions (version_of first) (run (moments first) s last frame w) }
+        ≡ run_versions (version_of first) (run (moments first) s last frame w) }
+{}
+
+/// Versions of 32 bits stand for moments in each step of a run: it writes the same lines, and the state after it has versions
+/// instead of moments.
+pub fn versions_stand_for_moments_in_a_step()
+    ensures { (first : ℕ) (capacity : List ℕ → ℕ) (trace : Bool) (st : State) (t : Task) → IsVersion first → StateHasMoments st
+        → course_after versions capacity trace (state_versions (version_of first) st) t
+        ≡ course_versions (version_of first) (course_after (moments first) capacity trace st t) }
 {}
 
 /// A phase of systems that don't conflict is the fold of its systems. What their items make of the first world, put
 /// together, is the world after all systems one after another; and each system visits the same blocks and records the same.
 pub fn phases_are_the_fold_of_their_systems()
     ensures { (clock : Clock) (frame : ℕ) (w : World) (js : List Turn) → AreApart w.registry js
-        → (world_each clock frame js w ≡ joined clock frame js w) × (counts_each clock frame js w ≡ joined_counts clock frame w w.moment js) }
+        → (world_each clock frame js w ≡ joined clock frame js w) × (outputs_each clock frame js w ≡ joined_outputs clock frame w w.moment js) }
+{}
+
+/// A phase of systems that don't conflict is one step of a run: it makes the state that the steps of its systems make one
+/// after another, with its waiting buffers and its lines.
+pub fn phases_are_steps_of_a_run()
+    ensures { (clock : Clock) (capacity : List ℕ → ℕ) (trace : Bool) (frame : ℕ) (ss : List Numbered) → AreDistinct (map number_of ss) → (st : State)
+        → AreApart st.world.registry (turns_of clock capacity trace st ss)
+        → course_after_all clock capacity trace (tasks_of_phase frame ss) (Goes st) ≡ Goes (after_phase clock capacity trace frame ss st) }
 {}
 
 /// A run keeps a world lawful, if no assignment of the system writes a dynamic buffer, and each enable text switches an
@@ -80,9 +97,21 @@ pub fn runs_keep_worlds_lawful()
         → IsLawful capacity w → IsLawful capacity (run (moments first) s last frame w).world }
 {}
 
+/// The entries of a run suit the types of the world, if the commands of its system do.
+pub fn recorded_entries_suit_the_world()
+    ensures { (clock : Clock) (s : SystemEntry) (last : Option ℕ) (frame : ℕ) (w : World) → SystemSuits w.registry s
+        → AllSuit w.registry (run clock s last frame w).entries }
+{}
+
 /// Playback keeps a world lawful, if each entry asks for an operation that suits the world's types.
-#[tactic(auto, using(crate::proofs::PlayLawful::played_lawful))]
 pub fn playback_keeps_worlds_lawful()
     ensures { (capacity : List ℕ → ℕ) → HasRoomForParts capacity → (w : World) (entries : List Entry) → AllSuit w.registry entries
-        → IsLawful capacity w → IsLawful capacity (played capacity w entries).world }
+        → IsLawful capacity w → IsLawful capacity (playback capacity w entries).world }
+{}
+
+/// A step of a frame keeps a state lawful, in a run that requests no scene.
+pub fn steps_keep_states_lawful()
+    ensures { (capacity : List ℕ → ℕ) → HasRoomForParts capacity → (first : ℕ) (trace : Bool) (registry : List TypeInfo) (st : State) (t : Task)
+        → StepSuits registry t.step → IsLawfulState capacity registry st
+        → OnGoes (IsLawfulState capacity registry) (course_after (moments first) capacity trace st t) }
 {}

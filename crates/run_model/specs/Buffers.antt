@@ -5,9 +5,9 @@ use Rattle.run_model.specs.Run.{Entry}
 
 -- by key, then item, then the row's place, then number
 abbrev pub before : Entry → Entry → Bool
-before x y = int_lt x.said.key y.said.key || (int_eq x.said.key y.said.key
+before x y = int_lt x.command.key y.command.key || (int_eq x.command.key y.command.key
     && (nat_lt x.item y.item || (nat_eq x.item y.item
-    && (nat_lt x.place y.place || (nat_eq x.place y.place && nat_lt x.said.number y.said.number)))))
+    && (nat_lt x.place y.place || (nat_eq x.place y.place && nat_lt x.command.number y.command.number)))))
 
 abbrev pub insert_by : {X : Type 0} → (X → X → Bool) → X → List X → List X
 insert_by lt x [] = x ∷ []
@@ -28,14 +28,14 @@ pub record SharedKey : Type 0 where
   pub second_item : ℕ
 
 -- two entries with one key, of which the first has the lower item
-abbrev pub do_share : Entry → Entry → Bool
-do_share x y = int_eq x.said.key y.said.key && nat_lt x.item y.item
+abbrev pub share_key : Entry → Entry → Bool
+share_key x y = int_eq x.command.key y.command.key && nat_lt x.item y.item
 
 abbrev pub shared_by : Entry → Entry → SharedKey
-shared_by x y = record { key = x.said.key; first_item = x.item; second_item = y.item }
+shared_by x y = record { key = x.command.key; first_item = x.item; second_item = y.item }
 
 abbrev pub shared_keys : List Entry → List SharedKey
-shared_keys entries = flat_map (λ x. map (shared_by x) (filter (do_share x) entries)) entries
+shared_keys entries = flat_map (λ x. map (shared_by x) (filter (share_key x) entries)) entries
 
 abbrev pub shared_before : SharedKey → SharedKey → Bool
 shared_before a b = int_lt a.key b.key || (int_eq a.key b.key

@@ -30,21 +30,21 @@ pub data Target : Type 0 where
   Placeholder : ℕ → Target
 
 -- a value, or the entity that the command of this number makes for the same row
-pub data Given : Type 0 where
-  Known : Value → Given
-  MadeBy : ℕ → Given
+pub data GivenValue : Type 0 where
+  Known : Value → GivenValue
+  MadeBy : ℕ → GivenValue
 
 -- a structural change whose values are known but for the entities that are made
-pub data Deed : Type 0 where
-  Creates : List (PartOf Given) → Deed
-  Does : Target → Act Given → Deed
+pub data Change : Type 0 where
+  Creates : List (PartOf GivenValue) → Change
+  ActsOn : Target → Act GivenValue → Change
 
--- what a row said by one of its system's commands; nothing here names the row
-pub record Saying : Type 0 where
+-- a command that was recorded for a row; nothing here names the row
+pub record Recorded : Type 0 where
   pub key : ℤ
   pub point : Point
   pub number : ℕ
-  pub deed : Deed
+  pub change : Change
 
 -- ---- values
 
@@ -55,11 +55,11 @@ target_of own (refs.Made k) = Placeholder k
 target_of own (refs.Own ty i) = Live (value_ref own (refs.Own ty i))
 target_of own (refs.Entity e) = Live (value_ref own (refs.Entity e))
 
-abbrev pub given_ref : FieldKind → Target → Given
+abbrev pub given_ref : FieldKind → Target → GivenValue
 given_ref kind (Live e) = Known (fit kind (Ref e))
 given_ref kind (Placeholder k) = MadeBy k
 
-abbrev pub given_of : OwnRow → OtherRows → FieldKind → ValueExpr → Given
+abbrev pub given_of : OwnRow → OtherRows → FieldKind → ValueExpr → GivenValue
 given_of own others kind (values.Int e) = Known (fit kind (Int (value own others e)))
 given_of own others kind (values.Ref r) = given_ref kind (target_of own r)
 
@@ -77,24 +77,24 @@ placeholders_in act = in_act (λ e. []) placeholders_in_ref act
 module _ (registry : List TypeInfo) (own : OwnRow) (others : OtherRows) where
   -- The values of a part, from the one at this place on. A buffer has several elements, so the kinds of its fields begin
   -- anew after the last one.
-  abbrev pub givens_from : ℕ → ℕ → List ValueExpr → List Given
+  abbrev pub givens_from : ℕ → ℕ → List ValueExpr → List GivenValue
   givens_from t k [] = []
   givens_from t k (v ∷ vs) =
       given_of own others (field_kind_at registry t (k % length (fields_at registry t))) v ∷ givens_from t (k + 1) vs
 
-  abbrev pub part_given : PartExpr → PartOf Given
+  abbrev pub part_given : PartExpr → PartOf GivenValue
   part_given p = record { type_id = p.ty.0; values = givens_from p.ty.0 0 p.values }
 
-  abbrev pub deed_of : CommandText → Deed
-  deed_of (texts.Create name parts) = Creates (map part_given parts)
-  deed_of (texts.Destroy r) = Does (target_of own r) Destroy
-  deed_of (texts.Add r p) = Does (target_of own r) (Add (part_given p))
-  deed_of (texts.Set r p) = Does (target_of own r) (Set (part_given p))
-  deed_of (texts.SetShared r p) = Does (target_of own r) (SetShared (part_given p))
-  deed_of (texts.Remove r ty) = Does (target_of own r) (Remove ty.0)
-  deed_of (texts.Enable r ty) = Does (target_of own r) (SetEnabled ty.0 true)
-  deed_of (texts.Disable r ty) = Does (target_of own r) (SetEnabled ty.0 false)
-  deed_of (texts.Instantiate name r) = Does (target_of own r) Instantiate
+  abbrev pub change_of : CommandText → Change
+  change_of (texts.Create name parts) = Creates (map part_given parts)
+  change_of (texts.Destroy r) = ActsOn (target_of own r) Destroy
+  change_of (texts.Add r p) = ActsOn (target_of own r) (Add (part_given p))
+  change_of (texts.Set r p) = ActsOn (target_of own r) (Set (part_given p))
+  change_of (texts.SetShared r p) = ActsOn (target_of own r) (SetShared (part_given p))
+  change_of (texts.Remove r ty) = ActsOn (target_of own r) (Remove ty.0)
+  change_of (texts.Enable r ty) = ActsOn (target_of own r) (SetEnabled ty.0 true)
+  change_of (texts.Disable r ty) = ActsOn (target_of own r) (SetEnabled ty.0 false)
+  change_of (texts.Instantiate name r) = ActsOn (target_of own r) Instantiate
 
   -- ---- recording
 
@@ -102,15 +102,15 @@ module _ (registry : List TypeInfo) (own : OwnRow) (others : OtherRows) where
   abbrev pub is_recorded : List ℕ → CommandEntry → Bool
   is_recorded recorded c = is_true (value own others c.when) && list_all (has_type recorded) (placeholders_in c.act)
 
-  abbrev pub saying_of : ℕ → CommandEntry → Saying
-  saying_of n c = record { key = int_wrap w32 (value own others c.key); point = c.buffer; number = n; deed = deed_of c.act }
+  abbrev pub recorded_as : ℕ → CommandEntry → Recorded
+  recorded_as n c = record { key = int_wrap w32 (value own others c.key); point = c.buffer; number = n; change = change_of c.act }
 
-  -- what is said by commands whose first has this number, where some before it were recorded
-  abbrev pub sayings_from : ℕ → List ℕ → List CommandEntry → List Saying
-  sayings_from n recorded [] = []
-  sayings_from n recorded (c ∷ cs) =
-      (if is_recorded recorded c then saying_of n c ∷ [] else [])
-      ++ sayings_from (n + 1) (if is_recorded recorded c then n ∷ recorded else recorded) cs
+  -- what is recorded of commands whose first has this number, after some before it were recorded
+  abbrev pub recorded_from : ℕ → List ℕ → List CommandEntry → List Recorded
+  recorded_from n recorded [] = []
+  recorded_from n recorded (c ∷ cs) =
+      (if is_recorded recorded c then recorded_as n c ∷ [] else [])
+      ++ recorded_from (n + 1) (if is_recorded recorded c then n ∷ recorded else recorded) cs
 
-  abbrev pub sayings_of : List CommandEntry → List Saying
-  sayings_of commands = sayings_from 0 [] commands
+  abbrev pub recorded_by : List CommandEntry → List Recorded
+  recorded_by commands = recorded_from 0 [] commands

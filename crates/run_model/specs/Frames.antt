@@ -1,5 +1,5 @@
 -- The run of a scenario: its state, what each task makes of it, and how the run ends.
-use Rattle.std.specs.Prelude.{ℕ, ◌+◌, Bool, not, ◌&&◌, if◌then◌else◌, nat_eq, List, [], ◌∷◌, ◌++◌, length, map, filter, fold, flat_map, slice_get, slice_set, sum_by, unwrap_or, replicate, Option, Some, None}
+use Rattle.std.specs.Prelude.{ℕ, Bool, not, if◌then◌else◌, nat_eq, List, [], ◌∷◌, ◌++◌, length, map, filter, fold, slice_get, slice_set, sum_by, unwrap_or, replicate, Option, Some, None}
 use Rattle.ent_types.specs.declared.point.Point.{Point}
 use Rattle.ent_types.specs.declared.point.Point.TheVariants.{BeginInitialization, EndInitialization, BeginSimulation, EndSimulation, BeginPresentation}
 use Rattle.world_model.specs.World.{World}
@@ -12,11 +12,11 @@ use Rattle.run_model.specs.declared.lines.NoteLine.TheVariants.{EventSkip, Comma
 use Rattle.run_model.specs.declared.lines.TraceLine.{TraceLine}
 use Rattle.run_model.specs.declared.lines.TraceLine.TheVariants.{Run as RunLine, Play as PlayLine}
 use Rattle.run_model.specs.Clock.{Clock}
-use Rattle.run_model.specs.Run.{Entry, Ran, run}
+use Rattle.run_model.specs.Run.{Entry, RunResult, run}
 use Rattle.run_model.specs.Buffers.{SharedKey, shared_key}
-use Rattle.run_model.specs.Playback.{Note, Playing, done_by, played}
-use Rattle.run_model.specs.Loads.{SceneFile, Load, Scened, due_arrived, requested, unloaded, pending_lines}
-use Rattle.run_model.specs.Tasks.{Happening, Operates, Loads, Unloads, Doing, Happens, Plays, Runs, Task, tasks_of, spawned}
+use Rattle.run_model.specs.Playback.{Note, PlaybackState, done_by, playback}
+use Rattle.run_model.specs.Loads.{SceneFile, Load, SceneState, due_arrived, requested, unloaded, pending_lines}
+use Rattle.run_model.specs.Tasks.{FrameEvent, Operates, Loads, Unloads, FrameStep, DoesEvents, Plays, Runs, Task, tasks_of, spawned}
 
 -- ---- buffers
 
@@ -48,7 +48,7 @@ buffer_at n s frame entries point = record {
   name = s.name;
   frame = frame;
   point = point;
-  entries = filter (λ x. is_point x.said.point point) entries;
+  entries = filter (λ x. is_point x.command.point point) entries;
 }
 
 abbrev pub has_entry : Buffer → Bool
@@ -72,7 +72,7 @@ pub data Line : Type 0 where
 
 abbrev pub skip_line : ℕ → Buffer → Note → Line
 skip_line frame b n =
-    Noted (CommandSkip frame b.name b.point n.entry.item n.entry.place n.entry.said.number n.cause)
+    Noted (CommandSkip frame b.name b.point n.entry.item n.entry.place n.entry.command.number n.cause)
 
 abbrev pub shared_line : ℕ → Buffer → SharedKey → Line
 shared_line frame b k = Noted (KeyShared frame b.name b.point k.key k.first_item k.second_item)
@@ -108,11 +108,11 @@ abbrev pub with_lines : State → List Line → State
 with_lines st lines = record st { lines = st.lines ++ lines }
 
 -- the loads and the world of a state change together
-abbrev pub scened : State → (Scened → Scened) → State
-scened st change = put (change (record { world = st.world; loads = st.loads; lines = [] }))
-  where
-    put : Scened → State
-    put c = record st { world = c.world; loads = c.loads; lines = st.lines ++ map Noted c.lines }
+abbrev pub with_scenes : State → SceneState → State
+with_scenes st c = record st { world = c.world; loads = c.loads; lines = st.lines ++ map Noted c.lines }
+
+abbrev pub scenes_changed : State → (SceneState → SceneState) → State
+scenes_changed st change = with_scenes st (change (record { world = st.world; loads = st.loads; lines = [] }))
 
 -- ---- tasks
 
@@ -125,81 +125,83 @@ module _ (clock : Clock) (capacity : List ℕ → ℕ) (trace : Bool) where
 
   -- events
 
-  abbrev pub operated : ℕ → ℕ → State → Answer → State
-  operated frame k st a = with_lines (with_world st a.world) (map Noted (event_lines frame k a.reply))
+  abbrev pub operation_done : ℕ → ℕ → State → Answer → State
+  operation_done frame k st a = with_lines (with_world st a.world) (map Noted (event_lines frame k a.reply))
 
-  abbrev pub happened : ℕ → State → Happening → State
-  happened frame st (Operates k operation) = operated frame k st (done_by capacity st.world operation)
-  happened frame st (Loads file name delay) = scened st (requested capacity frame file name delay)
-  happened frame st (Unloads name) = scened st (unloaded capacity frame name)
+  abbrev pub event_done : ℕ → State → FrameEvent → State
+  event_done frame st (Operates k operation) = operation_done frame k st (done_by capacity st.world operation)
+  event_done frame st (Loads file name delay) = scenes_changed st (requested capacity frame file name delay)
+  event_done frame st (Unloads name) = scenes_changed st (unloaded capacity frame name)
 
   -- the scenes that are due arrive first, then the frame's own events are done in order
-  abbrev pub all_happened : ℕ → List Happening → State → State
-  all_happened frame happenings st = fold (happened frame) (scened st (due_arrived capacity frame)) happenings
+  abbrev pub events_done : ℕ → List FrameEvent → State → State
+  events_done frame events st = fold (event_done frame) (scenes_changed st (due_arrived capacity frame)) events
 
   -- points
 
-  abbrev pub buffer_played : ℕ → State → Buffer → State
-  buffer_played frame st b = put (played capacity st.world b.entries)
-    where
-      put : Playing → State
-      put p = with_lines (with_world st p.world) (map (skip_line frame b) p.notes)
+  abbrev pub with_played : ℕ → State → Buffer → PlaybackState → State
+  with_played frame st b p = with_lines (with_world st p.world) (map (skip_line frame b) p.notes)
 
-  abbrev pub buffers_played : ℕ → List Buffer → State → Course
-  buffers_played frame [] st = Goes st
-  buffers_played frame (b ∷ bs) st = on (shared_key b.entries) (buffers_played frame bs (buffer_played frame st b))
-    where
-      on : Option SharedKey → Course → Course
-      on None next = next
-      on (Some k) next = Stops (st.lines ++ shared_line frame b k ∷ [])
+  abbrev pub after_buffer : ℕ → State → Buffer → State
+  after_buffer frame st b = with_played frame st b (playback capacity st.world b.entries)
+
+  -- a shared key ends the run before what comes next
+  abbrev pub unless_shared : ℕ → State → Buffer → Option SharedKey → Course → Course
+  unless_shared frame st b None next = next
+  unless_shared frame st b (Some k) next = Stops (st.lines ++ shared_line frame b k ∷ [])
+
+  abbrev pub after_buffers : ℕ → List Buffer → State → Course
+  after_buffers frame [] st = Goes st
+  after_buffers frame (b ∷ bs) st =
+      unless_shared frame st b (shared_key b.entries) (after_buffers frame bs (after_buffer frame st b))
 
   abbrev pub play_lines : ℕ → Point → World → List Buffer → List Line
   play_lines frame point w [] = []
   play_lines frame point w (b ∷ bs) =
       trace_lines (PlayLine frame point (clock.version w.moment) (length (b ∷ bs)) (entry_count (b ∷ bs)))
 
-  -- a point plays its waiting buffers, of which a later one isn't played where one has a shared key
-  abbrev pub point_played : ℕ → Point → State → Course
-  point_played frame point st = on (filter (waits_at point) st.waiting)
-    where
-      on : List Buffer → Course
-      on buffers = buffers_played frame buffers (with_lines
-          (record (raised st) { waiting = filter (λ b. not (waits_at point b)) st.waiting })
-          (play_lines frame point (raised st).world buffers))
+  abbrev pub after_waiting : ℕ → Point → State → List Buffer → Course
+  after_waiting frame point st buffers = after_buffers frame buffers (with_lines
+      (record (raised st) { waiting = filter (λ b. not (waits_at point b)) st.waiting })
+      (play_lines frame point (raised st).world buffers))
+
+  -- a point plays its waiting buffers, up to the first one with a shared key
+  abbrev pub after_point : ℕ → Point → State → Course
+  after_point frame point st = after_waiting frame point st (filter (waits_at point) st.waiting)
 
   -- systems
 
   abbrev pub last_run : List (Option ℕ) → ℕ → Option ℕ
   last_run lasts n = unwrap_or (slice_get lasts n) None
 
-  abbrev pub run_line : ℕ → SystemEntry → Ran → TraceLine
+  abbrev pub run_line : ℕ → SystemEntry → RunResult → TraceLine
   run_line frame s ran =
       RunLine frame s.name (clock.version ran.world.moment) ran.visits ran.passing (length ran.entries)
 
-  abbrev pub system_ran : ℕ → ℕ → SystemEntry → State → State
-  system_ran frame n s st = put (run clock s (last_run st.lasts n) frame st.world)
-    where
-      put : Ran → State
-      put ran = record st {
-        world = ran.world;
-        lasts = slice_set st.lasts n (Some ran.world.moment);
-        waiting = st.waiting ++ buffers_of n s frame ran.entries;
-        lines = st.lines ++ trace_lines (run_line frame s ran);
-      }
+  abbrev pub with_run : ℕ → ℕ → SystemEntry → State → RunResult → State
+  with_run frame n s st ran = record st {
+    world = ran.world;
+    lasts = slice_set st.lasts n (Some ran.world.moment);
+    waiting = st.waiting ++ buffers_of n s frame ran.entries;
+    lines = st.lines ++ trace_lines (run_line frame s ran);
+  }
 
-  abbrev pub did : ℕ → State → Doing → Course
-  did frame st (Happens happenings) = Goes (all_happened frame happenings (raised st))
-  did frame st (Plays point) = point_played frame point st
-  did frame st (Runs n s) = Goes (system_ran frame n s st)
+  abbrev pub after_system : ℕ → ℕ → SystemEntry → State → State
+  after_system frame n s st = with_run frame n s st (run clock s (last_run st.lasts n) frame st.world)
+
+  abbrev pub step_done : ℕ → State → FrameStep → Course
+  step_done frame st (DoesEvents events) = Goes (events_done frame events (raised st))
+  step_done frame st (Plays point) = after_point frame point st
+  step_done frame st (Runs n s) = Goes (after_system frame n s st)
 
   -- what a task makes of a state
-  unfoldable pub stepped : State → Task → Course
-  stepped st t = did t.frame st t.doing
+  unfoldable pub course_after : State → Task → Course
+  course_after st t = step_done t.frame st t.step
 
-  abbrev pub goes_on : List Task → Course → Course
-  goes_on [] course = course
-  goes_on (t ∷ ts) (Goes st) = goes_on ts (stepped st t)
-  goes_on (t ∷ ts) (Stops lines) = Stops lines
+  abbrev pub course_after_all : List Task → Course → Course
+  course_after_all [] course = course
+  course_after_all (t ∷ ts) (Goes st) = course_after_all ts (course_after st t)
+  course_after_all (t ∷ ts) (Stops lines) = Stops lines
 
 -- ---- the whole run
 
@@ -227,6 +229,6 @@ end_of (Goes st) = Finished (st.lines ++ last_lines st) st.world
 end_of (Stops lines) = AtSharedKey lines
 
 -- The run of a scenario with the steps of its plan. `files` says what each scene file holds.
-unfoldable pub ended : Clock → (List ℕ → ℕ) → Bool → (List ℕ → SceneFile) → Scenario → List Step → ℕ → End
-ended clock capacity trace files s steps moment =
-    end_of (goes_on clock capacity trace (tasks_of files s steps) (Goes (started capacity s moment)))
+unfoldable pub end_of_run : Clock → (List ℕ → ℕ) → Bool → (List ℕ → SceneFile) → Scenario → List Step → ℕ → End
+end_of_run clock capacity trace files s steps moment =
+    end_of (course_after_all clock capacity trace (tasks_of files s steps) (Goes (started capacity s moment)))

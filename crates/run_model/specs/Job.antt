@@ -1,6 +1,6 @@
 -- The job of a system on a row: its assignments in order, then its enable texts in order. Each text sees the row as those
 -- before it left it.
-use Rattle.std.specs.Prelude.{ℕ, pos, Bool, false, List, [], ◌∷◌, ◌++◌, map, unwrap_or, option_and_then, slice_get, slice_set}
+use Rattle.std.specs.Prelude.{ℕ, pos, false, List, [], ◌∷◌, ◌++◌, map, unwrap_or, option_and_then, slice_get, slice_set}
 use Rattle.ent_types.specs.declared.entity.Entity.{Entity}
 use Rattle.ent_types.specs.declared.kinds.FieldKind.{FieldKind}
 use Rattle.ent_types.specs.declared.type_info.TypeInfo.{TypeInfo}
@@ -8,7 +8,7 @@ use Rattle.ent_types.specs.declared.value.Value.{Value}
 use Rattle.ent_types.specs.declared.value.Value.TheVariants.{Int, Ref}
 use Rattle.ent_types.specs.Fitting.{fit, null_entity}
 use Rattle.ent_types.specs.TypeLookups.{field_kind_at}
-use Rattle.world_model.specs.Row.{Row, Cell}
+use Rattle.world_model.specs.Row.{Cell}
 use Rattle.world_model.specs.World.{Home, World}
 use Rattle.world_model.specs.Found.{Found, found, values_of}
 use Rattle.world_model.specs.Operations.{with_values, switched}
@@ -23,7 +23,7 @@ use Rattle.run_model.specs.Query.{is_on}
 
 -- ---- what an expression sees
 
--- where a system meets a row: in which frame, in which of the visited blocks, and at which place there
+-- where a system visits a row: in which frame, in which item (visited block), and at which place of the block
 pub record Spot : Type 0 where
   pub frame : ℕ
   pub item : ℕ

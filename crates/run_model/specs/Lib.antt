@@ -10,3 +10,4 @@ pub mod Loads
 pub mod Tasks
 pub mod Frames
 pub mod Phases
+pub mod PhaseSteps

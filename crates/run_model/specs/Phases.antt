@@ -1,18 +1,18 @@
 -- Which systems may run side by side, and what they make together.
-use Rattle.std.specs.Prelude.{◌≡◌, ℕ, zero, suc, ◌+◌, Bool, false, not, ◌&&◌, ◌||◌, if◌then◌else◌, List, [], ◌∷◌, ◌++◌, length, map, filter, take, flat_map, is_some, Option, Some, None}
+use Rattle.std.specs.Prelude.{◌≡◌, ℕ, zero, suc, ◌+◌, Bool, false, ◌||◌, if◌then◌else◌, List, [], ◌∷◌, ◌++◌, take, flat_map, is_some, Option, Some, None}
 use Rattle.std.specs.List.{list_any}
 use Rattle.ent_types.specs.declared.type_info.TypeInfo.{TypeInfo}
 use Rattle.ent_types.specs.TypeSets.{has_type, meets}
 use Rattle.world_model.specs.Members.{In, tally}
 use Rattle.world_model.specs.Row.{Cell, Row}
-use Rattle.world_model.specs.World.{Home, Mark, Block, World}
+use Rattle.world_model.specs.World.{Home, Block, World}
 use Rattle.world_model.specs.Write.{marked}
 use Rattle.expr_eval.specs.Values.{OtherRows}
 use Rattle.scenario_record.specs.declared.record.SystemEntry.{SystemEntry}
 use Rattle.run_model.specs.Clock.{Clock}
 use Rattle.run_model.specs.Query.{matches, passes, is_visited}
-use Rattle.run_model.specs.Job.{Spot, others_in, writes}
-use Rattle.run_model.specs.Run.{Met, Entry, Ran, entries_at, row_after, said_of, met_rows, item_after, run}
+use Rattle.run_model.specs.Job.{others_in, writes}
+use Rattle.run_model.specs.Run.{Entry, RunResult, entries_at, row_after, recorded_of, matched_in, item_after, run}
 use Rattle.run_model.specs.Touched.{looked_up, own_types, named_types}
 
 -- ---- conflicts
@@ -63,27 +63,27 @@ AreApart registry [] = Unit {0}
 AreApart registry (j ∷ js) = ((k : Turn) → In k js → conflicts registry j.system k.system ≡ false) × AreApart registry js
 
 -- what a run gives besides the world
-pub record Count : Type 0 where
+pub record RunOutput : Type 0 where
   pub visits : ℕ
   pub passing : ℕ
   pub entries : List Entry
 
-abbrev pub count_of : Ran → Count
-count_of ran = record { visits = ran.visits; passing = ran.passing; entries = ran.entries }
+abbrev pub output_of : RunResult → RunOutput
+output_of ran = record { visits = ran.visits; passing = ran.passing; entries = ran.entries }
 
 module _ (clock : Clock) (frame : ℕ) where
-  abbrev pub turn_ran : Turn → World → Ran
-  turn_ran j w = run clock j.system j.last frame w
+  abbrev pub turn_result : Turn → World → RunResult
+  turn_result j w = run clock j.system j.last frame w
 
   -- the world after the systems, one after another
   abbrev pub world_each : List Turn → World → World
   world_each [] w = w
-  world_each (j ∷ js) w = world_each js (turn_ran j w).world
+  world_each (j ∷ js) w = world_each js (turn_result j w).world
 
   -- what each of them gives besides
-  abbrev pub counts_each : List Turn → World → List Count
-  counts_each [] w = []
-  counts_each (j ∷ js) w = count_of (turn_ran j w) ∷ counts_each js (turn_ran j w).world
+  abbrev pub outputs_each : List Turn → World → List RunOutput
+  outputs_each [] w = []
+  outputs_each (j ∷ js) w = output_of (turn_result j w) ∷ outputs_each js (turn_result j w).world
 
   -- the moment after the systems
   abbrev pub moment_after : List Turn → ℕ → ℕ
@@ -101,27 +101,27 @@ pub record Item : Type 0 where
   pub block : Block
 
 -- What an item has made: the rows of its block, of whose cells the written types count, and what they recorded.
-pub record Made : Type 0 where
+pub record ItemResult : Type 0 where
   pub rows : List Row
   pub entries : List Entry
 
 module _ (clock : Clock) (registry : List TypeInfo) (frame : ℕ) (others : OtherRows) where
   -- the rows of an item from this place on, after the job on the first so many that match
-  abbrev pub rows_ran : SystemEntry → ℕ → Home → ℕ → ℕ → List Row → List Row
-  rows_ran s item home place zero rows = rows
-  rows_ran s item home place (suc k) [] = []
-  rows_ran s item home place (suc k) (r ∷ rs) =
+  abbrev pub rows_after_first : SystemEntry → ℕ → Home → ℕ → ℕ → List Row → List Row
+  rows_after_first s item home place zero rows = rows
+  rows_after_first s item home place (suc k) [] = []
+  rows_after_first s item home place (suc k) (r ∷ rs) =
       if matches registry s (record { home = home; row = r })
       then row_after registry s others (record { frame = frame; item = item; place = place }) (record { home = home; row = r })
-      ∷ rows_ran s item home (place + 1) k rs
-      else r ∷ rows_ran s item home (place + 1) (suc k) rs
+      ∷ rows_after_first s item home (place + 1) k rs
+      else r ∷ rows_after_first s item home (place + 1) (suc k) rs
 
   -- an item after its first so many rows that match; all else is read as it was before the phase
-  abbrev pub item_ran : Item → ℕ → Made
-  item_ran i k = record {
-    rows = rows_ran i.turn.system i.number i.block.home 0 k i.block.rows;
-    entries = flat_map (λ m. entries_at m (said_of registry i.turn.system others frame m))
-        (take k (met_rows registry i.turn.system i.number i.block.home 0 i.block.rows));
+  abbrev pub item_result : Item → ℕ → ItemResult
+  item_result i k = record {
+    rows = rows_after_first i.turn.system i.number i.block.home 0 k i.block.rows;
+    entries = flat_map (λ m. entries_at m (recorded_of registry i.turn.system others frame m))
+        (take k (matched_in registry i.turn.system i.number i.block.home 0 i.block.rows));
   }
 
   -- how many rows of an item match
@@ -137,7 +137,7 @@ module _ (clock : Clock) (registry : List TypeInfo) (frame : ℕ) (others : Othe
 
 -- ---- joined
 
--- what some cells have of these types, in the place of what others have of them
+-- the second cells, with the first ones replacing those of these types
 abbrev pub put_cells : List ℕ → List Cell → List Cell → List Cell
 put_cells ts [] ds = ds
 put_cells ts (c ∷ cs) [] = []
@@ -149,12 +149,12 @@ put_rows ts (r ∷ rs) [] = []
 put_rows ts (r ∷ rs) (q ∷ qs) = record q { cells = put_cells ts r.cells q.cells } ∷ put_rows ts rs qs
 
 module _ (clock : Clock) (registry : List TypeInfo) (frame : ℕ) (others : OtherRows) where
-  -- a block with the written types of an item in the place of its own, marked with the moment of the item
+  -- a block after an item, whose cells of the written types replace its own; these types are marked with the item's moment
   abbrev pub with_item : Option Item → Block → Block
   with_item None b = b
   with_item (Some i) b = record b {
     marks = marked i.now (writes i.turn.system) b.marks;
-    rows = put_rows (writes i.turn.system) (item_ran clock registry frame others i (item_rows clock registry frame others i)).rows b.rows;
+    rows = put_rows (writes i.turn.system) (item_result clock registry frame others i (item_rows clock registry frame others i)).rows b.rows;
   }
 
   abbrev pub with_items : List (Option Item) → List Block → List Block
@@ -181,19 +181,19 @@ joined clock frame js w = record w {
 abbrev pub item_entries : Clock → List TypeInfo → ℕ → OtherRows → Option Item → List Entry
 item_entries clock registry frame others None = []
 item_entries clock registry frame others (Some i) =
-    (item_ran clock registry frame others i (item_rows clock registry frame others i)).entries
+    (item_result clock registry frame others i (item_rows clock registry frame others i)).entries
 
 -- what the items of one turn give, one after another
-abbrev pub items_count : Clock → ℕ → World → Turn → List (Option Item) → Count
-items_count clock frame w j items = record {
+abbrev pub items_output : Clock → ℕ → World → Turn → List (Option Item) → RunOutput
+items_output clock frame w j items = record {
   visits = tally is_some items;
   passing = tally (λ b. passes w.registry j.system b.home.types) w.blocks;
   entries = flat_map (item_entries clock w.registry frame (others_in w)) items;
 }
 
 -- What the turns of a phase give. All their items are those of the world before the phase.
-abbrev pub joined_counts : Clock → ℕ → World → ℕ → List Turn → List Count
-joined_counts clock frame w now [] = []
-joined_counts clock frame w now (j ∷ js) =
-    items_count clock frame w j (turn_items clock w.registry frame (others_in w) j (clock.next now) 0 w.blocks)
-    ∷ joined_counts clock frame w (clock.next now) js
+abbrev pub joined_outputs : Clock → ℕ → World → ℕ → List Turn → List RunOutput
+joined_outputs clock frame w now [] = []
+joined_outputs clock frame w now (j ∷ js) =
+    items_output clock frame w j (turn_items clock w.registry frame (others_in w) j (clock.next now) 0 w.blocks)
+    ∷ joined_outputs clock frame w (clock.next now) js

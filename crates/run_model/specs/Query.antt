@@ -8,7 +8,7 @@ use Rattle.ent_types.specs.TypeLookups.{is_enableable_at}
 use Rattle.ent_types.specs.TypeSets.{has_type}
 use Rattle.world_model.specs.Part.{same_part, part_of}
 use Rattle.world_model.specs.Row.{Cell}
-use Rattle.world_model.specs.World.{Home, Mark, Block}
+use Rattle.world_model.specs.World.{Home, Block}
 use Rattle.world_model.specs.Found.{Found}
 use Rattle.scenario_record.specs.declared.record.SystemEntry.{SystemEntry}
 use Rattle.run_model.specs.Clock.{Clock}

@@ -11,30 +11,30 @@ use Rattle.scenario_record.specs.declared.record.SystemEntry.{SystemEntry}
 use Rattle.run_model.specs.Clock.{Clock}
 use Rattle.run_model.specs.Query.{matches, passes, is_visited}
 use Rattle.run_model.specs.Job.{Spot, own_of, others_in, texts_of, writes, after_texts}
-use Rattle.run_model.specs.Commands.{Saying, sayings_of}
+use Rattle.run_model.specs.Commands.{Recorded, recorded_by}
 
--- a row that a system meets, and where: in which item, and at which place of its block
-pub record Met : Type 0 where
+-- a row that matches in a visited block, and where: in which item, and at which place of the block
+pub record MatchedRow : Type 0 where
   pub item : ℕ
   pub place : ℕ
   pub at : Found
 
--- what a row said, and where it was met
+-- a recorded command, and the item and place of its row
 pub record Entry : Type 0 where
   pub item : ℕ
   pub place : ℕ
-  pub said : Saying
+  pub command : Recorded
 
 -- The world after a run; how many blocks were visited; how many blocks have types that pass; and what was recorded, in
 -- order. A buffer is what of it goes to one point.
-pub record Ran : Type 0 where
+pub record RunResult : Type 0 where
   pub world : World
   pub visits : ℕ
   pub passing : ℕ
   pub entries : List Entry
 
-abbrev pub entries_at : Met → List Saying → List Entry
-entries_at m sayings = map (λ said. record { item = m.item; place = m.place; said = said }) sayings
+abbrev pub entries_at : MatchedRow → List Recorded → List Entry
+entries_at m recorded = map (λ command. record { item = m.item; place = m.place; command = command }) recorded
 
 -- ---- a row
 
@@ -42,9 +42,9 @@ module _ (registry : List TypeInfo) (s : SystemEntry) (others : OtherRows) where
   abbrev pub cells_after : Spot → Found → List Cell
   cells_after spot x = after_texts registry others spot x.home x.row.entity (texts_of s) x.row.cells
 
-  -- what a row that matches says, after its texts were done
-  abbrev pub said_at : Spot → Found → List Saying
-  said_at spot x = sayings_of registry (own_of registry spot x.home x.row.entity (cells_after spot x)) others s.command
+  -- what is recorded for a row that matches, after its texts were done
+  abbrev pub recorded_at : Spot → Found → List Recorded
+  recorded_at spot x = recorded_by registry (own_of registry spot x.home x.row.entity (cells_after spot x)) others s.command
 
   abbrev pub row_after : Spot → Found → Row
   row_after spot x = record (x.row) { cells = if matches registry s x then cells_after spot x else x.row.cells }
@@ -63,17 +63,17 @@ module _ (registry : List TypeInfo) (s : SystemEntry) (others : OtherRows) (fram
   abbrev pub visited : ℕ → ℕ → Block → Block
   visited now item b = record b { marks = marked now (writes s) b.marks; rows = rows_after item b.home 0 b.rows }
 
-  abbrev pub said_of : Met → List Saying
-  said_of m = said_at registry s others (record { frame = frame; item = m.item; place = m.place }) m.at
+  abbrev pub recorded_of : MatchedRow → List Recorded
+  recorded_of m = recorded_at registry s others (record { frame = frame; item = m.item; place = m.place }) m.at
 
 module _ (registry : List TypeInfo) (s : SystemEntry) where
   -- the rows of an item that match, from this place on
-  abbrev pub met_rows : ℕ → Home → ℕ → List Row → List Met
-  met_rows item home place [] = []
-  met_rows item home place (r ∷ rs) =
+  abbrev pub matched_in : ℕ → Home → ℕ → List Row → List MatchedRow
+  matched_in item home place [] = []
+  matched_in item home place (r ∷ rs) =
       (if matches registry s (record { home = home; row = r })
       then record { item = item; place = place; at = record { home = home; row = r } } ∷ [] else [])
-      ++ met_rows item home (place + 1) rs
+      ++ matched_in item home (place + 1) rs
 
 -- ---- all blocks
 
@@ -82,11 +82,11 @@ module _ (clock : Clock) (registry : List TypeInfo) (s : SystemEntry) (last : Op
   abbrev pub item_after : ℕ → Block → ℕ
   item_after item b = if is_visited registry clock s last b then item + 1 else item
 
-  -- the rows that are met, in order: those of the visited blocks, as they are before the first job
-  abbrev pub met : ℕ → List Block → List Met
-  met item [] = []
-  met item (b ∷ bs) =
-      (if is_visited registry clock s last b then met_rows registry s item b.home 0 b.rows else []) ++ met (item_after item b) bs
+  -- the matching rows of the visited blocks, in order, as they are before the first job
+  abbrev pub matched : ℕ → List Block → List MatchedRow
+  matched item [] = []
+  matched item (b ∷ bs) =
+      (if is_visited registry clock s last b then matched_in registry s item b.home 0 b.rows else []) ++ matched (item_after item b) bs
 
   module _ (frame : ℕ) (others : OtherRows) where
     abbrev pub blocks_after : ℕ → ℕ → List Block → List Block
@@ -96,10 +96,10 @@ module _ (clock : Clock) (registry : List TypeInfo) (s : SystemEntry) (last : Op
         ∷ blocks_after now (item_after item b) bs
 
     abbrev pub entries_of : List Block → List Entry
-    entries_of blocks = flat_map (λ m. entries_at m (said_of registry s others frame m)) (met 0 blocks)
+    entries_of blocks = flat_map (λ m. entries_at m (recorded_of registry s others frame m)) (matched 0 blocks)
 
 -- The run of a system that ran last at a moment, or never.
-unfoldable pub run : Clock → SystemEntry → Option ℕ → ℕ → World → Ran
+unfoldable pub run : Clock → SystemEntry → Option ℕ → ℕ → World → RunResult
 run clock s last frame w = record {
   world = record w {
     moment = clock.next w.moment;

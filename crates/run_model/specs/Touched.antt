@@ -1,6 +1,5 @@
 -- The types that the texts of a system touch.
-use Rattle.std.specs.Prelude.{ℕ, Bool, not, ◌&&◌, ◌||◌, List, [], ◌∷◌, ◌++◌, map, filter, flat_map}
-use Rattle.std.specs.List.{list_any}
+use Rattle.std.specs.Prelude.{ℕ, List, [], ◌∷◌, ◌++◌, filter, flat_map}
 use Rattle.ent_types.specs.declared.type_info.TypeInfo.{TypeInfo}
 use Rattle.ent_types.specs.TypeLookups.{is_enableable_at}
 use Rattle.expr_trees.specs.declared.tree.Expr.{Expr, fold-Expr}
@@ -93,10 +92,6 @@ looked_up s = in_texts looked_in (λ r. []) s
 -- the types of the own row that its texts name
 abbrev pub own_types : SystemEntry → List ℕ
 own_types s = in_texts own_in own_in_ref s
-
--- the types that it writes
-abbrev pub written : SystemEntry → List ℕ
-written s = map (λ a. a.ty.0) s.set ++ map (λ w. w.ty.0) s.enable
 
 -- the types of its lists that can be disabled
 abbrev pub named_types : List TypeInfo → SystemEntry → List ℕ
