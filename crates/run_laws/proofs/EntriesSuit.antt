@@ -2,6 +2,7 @@
 use Rattle.std.proofs.Common.{◌≡◌, ℕ, zero, suc, ◌+◌, ◌-◌, ◌%◌, ◌<◌, ◌≤◌, inl, inr, Bool, true, false, not, ◌&&◌, if◌then◌else◌, List, [], ◌∷◌, ◌++◌, map, length, Option, Some, None, option_map, refl, sym, ap, ap₂, ◌∙◌, subst, arith, true≢false}
 use Rattle.std.specs.Prelude.{slice_index_or}
 use Rattle.std.specs.List.{flat_map}
+use Rattle.std.proofs.Math.Nat.{mod-eq_of_lt}
 use Rattle.std.proofs.lemmas.Bool.{and_from}
 use Rattle.ent_types.specs.declared.entity.Entity.{Entity}
 use Rattle.ent_types.specs.declared.entity.TypeId.{TypeId}
@@ -59,9 +60,6 @@ module _ (registry : List TypeInfo) (own : OwnRow) (others : OtherRows) (made : 
   at_seam other [] f after = refl
   at_seam other (g ∷ before) f after = at_seam other before f after
 
-  below_itself : (k n : ℕ) → k < n → k % n ≡ k
-  below_itself k n h = omega arith
-
   -- the values of the fields that are still to come, of which so many came before
   givens_fit : (t : ℕ) (before rest : List FieldInfo) (vs : List ValueExpr) → before ++ rest ≡ fields_at registry t → AreOfKinds rest vs
       → fits_fields rest (map (value_given made) (givens_from registry own others t (length before) vs)) ≡ true
@@ -82,7 +80,7 @@ module _ (registry : List TypeInfo) (own : OwnRow) (others : OtherRows) (made : 
       kind_is : field_kind_at registry t (length before % length (fields_at registry t)) ≡ f.kind
       kind_is =
           let size : length (fields_at registry t) ≡ length before + suc (length fs) = sym (ap length e) ∙ counted before in
-          ap (field_kind_at registry t) (below_itself (length before) (length (fields_at registry t)) (omega arith))
+          ap (field_kind_at registry t) (mod-eq_of_lt {n = length before} {m = length (fields_at registry t)} (omega arith))
           ∙ (ap (λ (xs : List FieldInfo). (slice_index_or xs (length before) (record { name = []; kind = I32 })).kind) (sym e)
           ∙ ap (λ (g : FieldInfo). g.kind) (at_seam (record { name = []; kind = I32 }) before f fs))
 

@@ -19,18 +19,27 @@ use Rattle.world_model.specs.Enter.{enter}
 use Rattle.world_model.specs.Leave.{leave}
 use Rattle.world_model.specs.Write.{rewrite}
 use Rattle.world_model.specs.Operations.{Destroy, Set, operate}
+use Rattle.expr_eval.specs.Values.{value, value_step}
 use Rattle.expr_trees.specs.declared.tree.Assign.{Assign}
+use Rattle.expr_trees.specs.declared.tree.CommandText.{CommandText}
+use Rattle.expr_trees.specs.declared.tree.CommandText.TheVariants as texts
+use Rattle.expr_trees.specs.declared.tree.Expr.{Expr}
+use Rattle.expr_trees.specs.declared.tree.Expr.TheOpen.{Expr-F}
+use Rattle.expr_trees.specs.declared.tree.Expr.TheFolds.{fold-roll-Expr}
+use Rattle.expr_trees.specs.declared.tree.Expr.TheViews.{roll-Expr}
+use Rattle.scenario_record.specs.declared.record.CommandEntry.{CommandEntry}
 use Rattle.expr_trees.specs.declared.tree.RefExpr.TheVariants as refs
 use Rattle.expr_trees.specs.declared.tree.ValueExpr.TheVariants as values
 use Rattle.scenario_record.specs.declared.record.SystemEntry.{SystemEntry}
 use Rattle.run_model.specs.declared.lines.NoteLine.TheVariants.{CommandSkip, Unplayed, KeyShared}
 use Rattle.run_model.specs.Clock.{moments}
 use Rattle.run_model.specs.Query.{matches, passes, has_shared, is_visited}
-use Rattle.run_model.specs.Commands.{Live, Placeholder, MadeBy, Change, Creates, ActsOn}
-use Rattle.run_model.specs.Run.{Entry, run}
+use Rattle.run_model.specs.Commands.{Live, Placeholder, MadeBy, Change, Creates, ActsOn, Recorded, recorded_by}
+use Rattle.run_model.specs.Run.{MatchedRow, Entry, matched, run}
 use Rattle.run_model.specs.Buffers.{arranged, shared_key}
 use Rattle.run_model.specs.Playback.{playback}
-use Rattle.run_model.specs.Tasks.{runs_in}
+use Rattle.run_model.specs.Job.{no_row}
+use Rattle.run_model.specs.Tasks.{no_others, runs_in}
 use Rattle.run_model.specs.Frames.{Buffer, State, Stops, Noted, buffers_of, after_point, after_system, end_of, Finished}
 use Rattle.run_model.specs.Phases.{conflicts, phases}
 
@@ -258,6 +267,26 @@ the_last_run_is_kept : (after_system (moments 1) (λ types. 128) false 1 0 point
     ≡ Some 5 ∷ None ∷ []
 unfolding run
 the_last_run_is_kept = refl
+
+-- ---- recording: the first command makes an entity, and the second one destroys it
+
+abbrev number : ℤ → Expr
+number z = roll-Expr (Expr-F.Number z)
+
+is_number : (z : ℤ) → value (no_row 0 1) no_others (number z) ≡ z
+is_number z = fold-roll-Expr ℤ (value_step (no_row 0 1) no_others) (Expr-F.Number z)
+
+abbrev command : ℤ → CommandText → CommandEntry
+command when act = record { buffer = EndSimulation; when = number when; key = number (pos 0); act = act }
+
+abbrev numbers : List CommandEntry → List ℕ
+numbers cs = map (λ (r : Recorded). r.number) (recorded_by registry (no_row 0 1) no_others cs)
+
+both_are_recorded : numbers (command (pos 1) (texts.Create [] []) ∷ command (pos 1) (texts.Destroy (refs.Made 0)) ∷ []) ≡ 0 ∷ 1 ∷ []
+both_are_recorded = rw (is_number (pos 1)) refl
+
+nothing_without_its_maker : numbers (command (pos 0) (texts.Create [] []) ∷ command (pos 1) (texts.Destroy (refs.Made 0)) ∷ command (pos 1) (texts.Destroy refs.Null) ∷ []) ≡ 2 ∷ []
+nothing_without_its_maker = rw (is_number (pos 0), is_number (pos 1)) refl
 
 -- ---- buffers
 

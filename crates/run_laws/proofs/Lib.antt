@@ -1,5 +1,6 @@
 pub mod Lists
 pub mod Matches
+pub mod Visits
 pub mod Sorts
 pub mod Arrange
 pub mod Order
@@ -8,6 +9,7 @@ pub mod StepClocks
 pub mod Agree
 pub mod RunAgree
 pub mod Phases
+pub mod Grouping
 pub mod PhaseStep
 pub mod Examples
 pub mod RunLawful

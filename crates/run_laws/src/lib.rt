@@ -1,27 +1,28 @@
 //! Laws of runs. Each is a function that does nothing, whose contract is the law.
 #![tactic(auto)]
 
-ghost use Rattle.std.specs.Prelude.{◌≡◌, ℕ, Bool, true, List, map, filter, Option, option_map};
+ghost use Rattle.std.specs.Prelude.{◌≡◌, ℕ, Bool, true, List, length, map, filter, Option, option_map};
+ghost use Rattle.std.specs.List.{flat_map};
 ghost use Rattle.std.specs.List.Sorted.{IsPermutation, IsSortedBy};
 ghost use Rattle.ent_types.specs.declared.type_info.TypeInfo.{TypeInfo};
 ghost use Rattle.ent_types.specs.Versions.{version_of, IsVersion};
 ghost use Rattle.world_model.specs.Members.{In, AreDistinct};
 ghost use Rattle.world_model.specs.Lawful.{HasRoomForParts, IsLawful};
-ghost use Rattle.world_model.specs.World.{Home, World};
+ghost use Rattle.world_model.specs.World.{Home, Block, World};
 ghost use Rattle.world_model.specs.Row.{Row};
 ghost use Rattle.world_model.specs.Found.{Found};
 ghost use Rattle.world_model.specs.Versions.{world_versions};
 ghost use Rattle.expr_eval.specs.Values.{OtherRows};
 ghost use Rattle.scenario_record.specs.declared.record.SystemEntry.{SystemEntry};
 ghost use Rattle.run_model.specs.Clock.{Clock, moments, versions};
-ghost use Rattle.run_model.specs.Query.{matches, passes};
+ghost use Rattle.run_model.specs.Query.{matches, passes, visits};
 ghost use Rattle.run_model.specs.Job.{Spot, writes};
-ghost use Rattle.run_model.specs.Run.{Entry, cells_after, recorded_at, run};
+ghost use Rattle.run_model.specs.Run.{Entry, cells_after, recorded_at, matched, rows_of_visits, run};
 ghost use Rattle.run_model.specs.Buffers.{before, arranged};
 ghost use Rattle.run_model.specs.Playback.{playback};
 ghost use Rattle.run_model.specs.Tasks.{Task};
 ghost use Rattle.run_model.specs.Frames.{State, Goes, course_after, course_after_all};
-ghost use Rattle.run_model.specs.Phases.{touches, Turn, AreApart, world_each, outputs_each, joined, joined_outputs};
+ghost use Rattle.run_model.specs.Phases.{touches, phases, Turn, AreApart, world_each, outputs_each, joined, joined_outputs};
 ghost use Rattle.run_model.specs.PhaseSteps.{Numbered, number_of, tasks_of_phase, turns_of, after_phase};
 ghost use Rattle.run_laws.specs.Agree.{CellsAgree, RowAgree, OthersAgree};
 ghost use Rattle.run_laws.specs.Entries.{AreDifferent};
@@ -32,6 +33,14 @@ ghost use Rattle.run_laws.specs.Versions.{run_versions, IsLast, HasMoments, stat
 /// A row that matches has types that pass. So a block with a row that matches is never left out for its types.
 pub fn rows_that_match_have_types_that_pass()
     ensures { (registry : List TypeInfo) (s : SystemEntry) (x : Found) → matches registry s x ≡ true → passes registry s x.home.types ≡ true }
+{}
+
+/// The items of a run are its visits: the blocks that it visits, in block order, each with its matching rows.
+pub fn items_are_visits()
+    ensures count { (clock : Clock) (s : SystemEntry) (last : Option ℕ) (frame : ℕ) (w : World)
+        → (run clock s last frame w).visits ≡ length (visits w.registry clock s last w.blocks) }
+    ensures rows { (clock : Clock) (registry : List TypeInfo) (s : SystemEntry) (last : Option ℕ) (blocks : List Block)
+        → matched clock registry s last 0 blocks ≡ rows_of_visits 0 (visits registry clock s last blocks) }
 {}
 
 /// A job leaves each cell whose type its system doesn't write.
@@ -80,6 +89,13 @@ pub fn versions_stand_for_moments_in_a_step()
 pub fn phases_are_the_fold_of_their_systems()
     ensures { (clock : Clock) (frame : ℕ) (w : World) (js : List Turn) → AreApart w.registry js
         → (world_each clock frame js w ≡ joined clock frame js w) × (outputs_each clock frame js w ≡ joined_outputs clock frame w w.moment js) }
+{}
+
+/// No two systems of a phase conflict, and the phases in order hold all systems in order.
+pub fn phases_hold_all_systems_apart()
+    ensures apart { (registry : List TypeInfo) (last : SystemEntry → Option ℕ) (ss q : List SystemEntry) → In q (phases registry ss)
+        → AreApart registry (map (λ s. record { system = s; last = last s }) q) }
+    ensures whole { (registry : List TypeInfo) (ss : List SystemEntry) → flat_map (λ q. q) (phases registry ss) ≡ ss }
 {}
 
 /// A phase of systems that don't conflict is one step of a run: it makes the state that the steps of its systems make one

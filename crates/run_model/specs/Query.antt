@@ -1,5 +1,5 @@
 -- Which rows a system takes: its five lists of types, the two tags, and the filters of blocks.
-use Rattle.std.specs.Prelude.{ℕ, Bool, true, false, not, ◌&&◌, ◌||◌, nat_eq, List, [], ◌∷◌, Option, Some, None}
+use Rattle.std.specs.Prelude.{ℕ, ◌+◌, Bool, true, false, not, ◌&&◌, ◌||◌, if◌then◌else◌, nat_eq, List, [], ◌∷◌, ◌++◌, Option, Some, None}
 use Rattle.std.specs.List.{list_any, list_all}
 use Rattle.ent_types.specs.declared.entity.TypeId.{TypeId}
 use Rattle.ent_types.specs.declared.entity.TheConstants.TypeId.{DISABLED, PREFAB}
@@ -7,11 +7,21 @@ use Rattle.ent_types.specs.declared.type_info.TypeInfo.{TypeInfo}
 use Rattle.ent_types.specs.TypeLookups.{is_enableable_at}
 use Rattle.ent_types.specs.TypeSets.{has_type}
 use Rattle.world_model.specs.Part.{same_part, part_of}
-use Rattle.world_model.specs.Row.{Cell}
+use Rattle.world_model.specs.Row.{Cell, Row}
 use Rattle.world_model.specs.World.{Home, Block}
 use Rattle.world_model.specs.Found.{Found}
 use Rattle.scenario_record.specs.declared.record.SystemEntry.{SystemEntry}
 use Rattle.run_model.specs.Clock.{Clock}
+
+-- a row at its place in a block
+pub record PlacedRow : Type 0 where
+  pub place : ℕ
+  pub row : Row
+
+-- a block that a run visits, with its matching rows
+pub record Visit : Type 0 where
+  pub block : Block
+  pub rows : List PlacedRow
 
 abbrev pub is_empty : List ℕ → Bool
 is_empty [] = true
@@ -75,3 +85,18 @@ module _ (registry : List TypeInfo) where
     is_visited last b =
         (passes s b.home.types && has_shared s b.home)
         && (is_fresh last b && list_any (λ r. matches s (record { home = b.home; row = r })) b.rows)
+
+    -- ---- visits
+
+    -- the matching rows among those of a home, from this place on
+    abbrev pub matching_rows : Home → ℕ → List Row → List PlacedRow
+    matching_rows home place [] = []
+    matching_rows home place (r ∷ rs) =
+        (if matches s (record { home = home; row = r }) then record { place = place; row = r } ∷ [] else [])
+        ++ matching_rows home (place + 1) rs
+
+    -- the visits of a run, in block order
+    abbrev pub visits : Option ℕ → List Block → List Visit
+    visits last [] = []
+    visits last (b ∷ bs) =
+        (if is_visited last b then record { block = b; rows = matching_rows b.home 0 b.rows } ∷ [] else []) ++ visits last bs

@@ -9,7 +9,7 @@ use Rattle.world_model.specs.Write.{marked}
 use Rattle.expr_eval.specs.Values.{OtherRows}
 use Rattle.scenario_record.specs.declared.record.SystemEntry.{SystemEntry}
 use Rattle.run_model.specs.Clock.{Clock}
-use Rattle.run_model.specs.Query.{matches, passes, is_visited}
+use Rattle.run_model.specs.Query.{Visit, matches, passes, is_visited}
 use Rattle.run_model.specs.Job.{Spot, own_of, others_in, texts_of, writes, after_texts}
 use Rattle.run_model.specs.Commands.{Recorded, recorded_by}
 
@@ -97,6 +97,13 @@ module _ (clock : Clock) (registry : List TypeInfo) (s : SystemEntry) (last : Op
 
     abbrev pub entries_of : List Block → List Entry
     entries_of blocks = flat_map (λ m. entries_at m (recorded_of registry s others frame m)) (matched 0 blocks)
+
+-- the rows of visits, of which the first is the item of this number
+abbrev pub rows_of_visits : ℕ → List Visit → List MatchedRow
+rows_of_visits item [] = []
+rows_of_visits item (v ∷ vs) =
+    map (λ p. record { item = item; place = p.place; at = record { home = v.block.home; row = p.row } }) v.rows
+    ++ rows_of_visits (item + 1) vs
 
 -- The run of a system that ran last at a moment, or never.
 unfoldable pub run : Clock → SystemEntry → Option ℕ → ℕ → World → RunResult
