@@ -41,7 +41,7 @@ module _ {X : Type 0} where
       behind : IsSortedBy lt (y ∷ ys)
       behind k d least less = rw add-one (let g = h (suc k) d (omega arith) (omega arith) in rw add-one at g)
 
-abbrev is_recorded_before : ℕ → ℕ → ℕ → ℕ → ℕ → ℕ → Bool
+abbrev pub is_recorded_before : ℕ → ℕ → ℕ → ℕ → ℕ → ℕ → Bool
 is_recorded_before i p m j q n = nat_lt i j || (nat_eq i j && (nat_lt p q || (nat_eq p q && nat_lt m n)))
 
 spot_later : (i p m j q n k r o : ℕ) → is_recorded_before i p m j q n ≡ true → is_recorded_before j q n k r o ≡ true → is_recorded_before i p m k r o ≡ true
@@ -55,13 +55,13 @@ spot_same i p m j q n e f = grind (arith, nat_tests)
 
 -- ---- the order of entries
 
-abbrev inner : Entry → Entry → Bool
+abbrev pub inner : Entry → Entry → Bool
 inner x y = is_recorded_before x.item x.place x.command.number y.item y.place y.command.number
 
-abbrev Before : Entry → Entry → Type 0
+abbrev pub Before : Entry → Entry → Type 0
 Before x y = (int_lt x.command.key y.command.key ≡ true) ⊎ ((x.command.key ≡ y.command.key) × (inner x y ≡ true))
 
-before_is : (x y : Entry) → before x y ≡ true → Before x y
+pub before_is : (x y : Entry) → before x y ≡ true → Before x y
 before_is x y h = by (int_lt x.command.key y.command.key) (int_eq x.command.key y.command.key) refl (Decides-int_eq x.command.key y.command.key).0 h
   where
     by : (b c : Bool) → int_lt x.command.key y.command.key ≡ b → (c ≡ true → x.command.key ≡ y.command.key) → (b || (c && inner x y)) ≡ true → Before x y

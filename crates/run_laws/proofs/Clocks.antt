@@ -4,12 +4,14 @@ use Rattle.std.specs.List.{list_any, flat_map}
 use Rattle.std.specs.Bool.{Decides}
 use Rattle.ent_types.specs.declared.type_info.TypeInfo.{TypeInfo}
 use Rattle.ent_types.specs.TypeSets.{has_type}
+use Rattle.ent_types.specs.declared.limits.TheConstants.{MOST_MOMENTS}
 use Rattle.ent_types.specs.Versions.{version_of, is_later, IsVersion, IsMoment}
 use Rattle.ent_types.proofs.VersionLemmas.{version_of-next, is_later-moments}
 use Rattle.world_model.specs.Members.{In, tally, one_if}
 use Rattle.world_model.specs.World.{Mark, Block, World}
 use Rattle.world_model.specs.Found.{Found, placed_in, placed, is_of}
 use Rattle.world_model.specs.Write.{marked}
+use Rattle.world_model.specs.Lawful.{IsPast, IsLawful}
 use Rattle.world_model.specs.Versions.{mark_versions, block_versions, world_versions}
 use Rattle.world_laws.proofs.Versions.{placed_turned}
 use Rattle.expr_eval.specs.Values.{OtherRows}
@@ -133,3 +135,15 @@ versions_run first s last frame w version last_is has =
     at : (o : Option ℕ) → IsLast o → (m : ℕ) → IsMoment m → Alike (moments first) versions (version_of first) w.registry s last m o
     at None h m m_is = tt
     at (Some l) h m m_is = later_same first m l version m_is h
+
+-- ---- lawful worlds
+
+past_moment : (now moment : ℕ) → now ≤ MOST_MOMENTS → IsPast now moment → IsMoment moment
+past_moment now moment few h = let a = h.within in record { from_one = h.from_one; within = omega arith }
+
+pub lawful_moments : (capacity : List ℕ → ℕ) (w : World) → IsLawful capacity w → w.moment ≤ MOST_MOMENTS → HasMoments w
+lawful_moments capacity w lawful few = record {
+  now = lawful.moment;
+  marks = λ b i m j. past_moment w.moment m.moment few ((lawful.blocks b i).marks m j);
+  order = λ b i. past_moment w.moment b.order few (lawful.blocks b i).order;
+}

@@ -7,7 +7,7 @@ use Rattle.world_model.specs.Members.{In}
 use Rattle.world_laws.proofs.Members.{in_append, map_append}
 use Rattle.scenario_record.specs.declared.record.SystemEntry.{SystemEntry}
 use Rattle.run_model.specs.Job.{writes}
-use Rattle.run_model.specs.Phases.{touches, conflicts, phases_from, phases, Turn, AreApart}
+use Rattle.run_model.specs.Phases.{touches, conflicts, phases_from, phases, Turn, turn_of, AreApart}
 
 or_swap : (b c : Bool) → (b || c) ≡ (c || b)
 or_swap true true = refl
@@ -24,7 +24,7 @@ conflicts_turned registry s r = or_swap (meets (writes s) (touches registry r)) 
 
 module _ (registry : List TypeInfo) (last : SystemEntry → Option ℕ) where
   abbrev turn : SystemEntry → Turn
-  turn s = record { system = s; last = last s }
+  turn s = turn_of last s
 
   abbrev Apart : List SystemEntry → Type 0
   Apart ss = AreApart registry (map turn ss)

@@ -3,6 +3,7 @@ pub mod Matches
 pub mod Visits
 pub mod Sorts
 pub mod Arrange
+pub mod SharedKeys
 pub mod Order
 pub mod Clocks
 pub mod StepClocks

@@ -7,7 +7,7 @@ use Rattle.world_laws.proofs.Perms.{Perm, empty, keep, swap, follow, perm_back, 
 use Rattle.run_model.specs.Buffers.{insert_by, sorted_by}
 
 module _ {X : Type 0} where
-  in_insert : (lt : X → X → Bool) (x y : X) (ys : List X) → In x (insert_by lt y ys) → (x ≡ y) ⊎ In x ys
+  pub in_insert : (lt : X → X → Bool) (x y : X) (ys : List X) → In x (insert_by lt y ys) → (x ≡ y) ⊎ In x ys
   in_insert lt x y [] h = h
   in_insert lt x y (z ∷ zs) h = by (lt z y) h (in_insert lt x y zs)
     where
@@ -28,6 +28,22 @@ module _ {X : Type 0} where
       by : (x ≡ y) ⊎ In x (sorted_by lt ys) → (In x (sorted_by lt ys) → In x ys) → (x ≡ y) ⊎ In x ys
       by (inl e) rest = inl e
       by (inr i) rest = inr (rest i)
+
+  insert_in : (lt : X → X → Bool) (x y : X) (ys : List X) → (x ≡ y) ⊎ In x ys → In x (insert_by lt y ys)
+  insert_in lt x y [] h = h
+  insert_in lt x y (z ∷ zs) h = by (lt z y) h (insert_in lt x y zs)
+    where
+      by : (b : Bool) → (x ≡ y) ⊎ ((x ≡ z) ⊎ In x zs) → ((x ≡ y) ⊎ In x zs → In x (insert_by lt y zs)) → In x (if b then z ∷ insert_by lt y zs else y ∷ z ∷ zs)
+      by false h rest = h
+      by true (inl e) rest = inr (rest (inl e))
+      by true (inr (inl e)) rest = inl e
+      by true (inr (inr i)) rest = inr (rest (inr i))
+
+  -- sorting loses nothing
+  pub sorted_in : (lt : X → X → Bool) (x : X) (xs : List X) → In x xs → In x (sorted_by lt xs)
+  sorted_in lt x [] h = h
+  sorted_in lt x (y ∷ ys) (inl e) = insert_in lt x y (sorted_by lt ys) (inl e)
+  sorted_in lt x (y ∷ ys) (inr i) = insert_in lt x y (sorted_by lt ys) (inr (sorted_in lt x ys i))
 
   -- one sort for each order of the elements
   module _ (lt : X → X → Bool) (later : (x y z : X) → lt x y ≡ true → lt y z ≡ true → lt x z ≡ true) (once : (x y : X) → lt x y ≡ true → lt y x ≡ false) where

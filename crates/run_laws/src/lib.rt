@@ -1,10 +1,11 @@
 //! Laws of runs. Each is a function that does nothing, whose contract is the law.
 #![tactic(auto)]
 
-ghost use Rattle.std.specs.Prelude.{◌≡◌, ℕ, Bool, true, List, length, map, filter, Option, option_map};
+ghost use Rattle.std.specs.Prelude.{◌≡◌, ℕ, ◌≤◌, Bool, true, List, length, map, filter, Option, option_map};
 ghost use Rattle.std.specs.List.{flat_map};
 ghost use Rattle.std.specs.List.Sorted.{IsPermutation, IsSortedBy};
 ghost use Rattle.ent_types.specs.declared.type_info.TypeInfo.{TypeInfo};
+ghost use Rattle.ent_types.specs.declared.limits.TheConstants.{MOST_MOMENTS};
 ghost use Rattle.ent_types.specs.Versions.{version_of, IsVersion};
 ghost use Rattle.world_model.specs.Members.{In, AreDistinct};
 ghost use Rattle.world_model.specs.Lawful.{HasRoomForParts, IsLawful};
@@ -18,11 +19,11 @@ ghost use Rattle.run_model.specs.Clock.{Clock, moments, versions};
 ghost use Rattle.run_model.specs.Query.{matches, passes, visits};
 ghost use Rattle.run_model.specs.Job.{Spot, writes};
 ghost use Rattle.run_model.specs.Run.{Entry, cells_after, recorded_at, matched, rows_of_visits, run};
-ghost use Rattle.run_model.specs.Buffers.{before, arranged};
+ghost use Rattle.run_model.specs.Buffers.{before, arranged, shared_key, shared_neighbours};
 ghost use Rattle.run_model.specs.Playback.{playback};
 ghost use Rattle.run_model.specs.Tasks.{Task};
 ghost use Rattle.run_model.specs.Frames.{State, Goes, course_after, course_after_all};
-ghost use Rattle.run_model.specs.Phases.{touches, phases, Turn, AreApart, world_each, outputs_each, joined, joined_outputs};
+ghost use Rattle.run_model.specs.Phases.{touches, phases, Turn, turn_of, AreApart, world_each, outputs_each, joined, joined_outputs};
 ghost use Rattle.run_model.specs.PhaseSteps.{Numbered, number_of, tasks_of_phase, turns_of, after_phase};
 ghost use Rattle.run_laws.specs.Agree.{CellsAgree, RowAgree, OthersAgree};
 ghost use Rattle.run_laws.specs.Entries.{AreDifferent};
@@ -69,6 +70,17 @@ pub fn sorted_entries_are_arranged()
     ensures { (es fs : List Entry) → AreDifferent es → IsPermutation es fs → IsSortedBy before fs → arranged es ≡ fs }
 {}
 
+/// In playback order the first two neighbours with one key and two items have the least shared key and its two least items,
+/// so one pass over a sorted buffer finds it.
+pub fn neighbours_have_the_shared_key()
+    ensures { (es : List Entry) → shared_neighbours (arranged es) ≡ shared_key es }
+{}
+
+/// In a lawful world of which the moment isn't too late, every mark is a moment of a run.
+pub fn lawful_worlds_have_moments()
+    ensures { (capacity : List ℕ → ℕ) (w : World) → IsLawful capacity w → w.moment ≤ MOST_MOMENTS → HasMoments w }
+{}
+
 /// Versions of 32 bits stand for moments in a run of a system: it visits the same blocks, and records the same.
 pub fn versions_stand_for_moments_in_a_run()
     ensures { (first : ℕ) (s : SystemEntry) (last : Option ℕ) (frame : ℕ) (w : World) → IsVersion first → IsLast last → HasMoments w
@@ -94,7 +106,7 @@ pub fn phases_are_the_fold_of_their_systems()
 /// No two systems of a phase conflict, and the phases in order hold all systems in order.
 pub fn phases_hold_all_systems_apart()
     ensures apart { (registry : List TypeInfo) (last : SystemEntry → Option ℕ) (ss q : List SystemEntry) → In q (phases registry ss)
-        → AreApart registry (map (λ s. record { system = s; last = last s }) q) }
+        → AreApart registry (map (turn_of last) q) }
     ensures whole { (registry : List TypeInfo) (ss : List SystemEntry) → flat_map (λ q. q) (phases registry ss) ≡ ss }
 {}
 

@@ -48,3 +48,13 @@ first_of (x ∷ xs) = Some x
 -- The least key that comes from two items, with its two least items. Where there is one, the buffer can't be played.
 unfoldable pub shared_key : List Entry → Option SharedKey
 shared_key entries = first_of (sorted_by shared_before (shared_keys entries))
+
+-- The first two neighbours with one key and two items. In playback order they have the least shared key and its two least
+-- items.
+abbrev pub neighbours_from : Entry → List Entry → Option SharedKey
+neighbours_from x [] = None
+neighbours_from x (y ∷ ys) = if share_key x y then Some (shared_by x y) else neighbours_from y ys
+
+abbrev pub shared_neighbours : List Entry → Option SharedKey
+shared_neighbours [] = None
+shared_neighbours (x ∷ xs) = neighbours_from x xs

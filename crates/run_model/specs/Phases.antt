@@ -49,6 +49,9 @@ pub record Turn : Type 0 where
   pub system : SystemEntry
   pub last : Option ℕ
 
+abbrev pub turn_of : (SystemEntry → Option ℕ) → SystemEntry → Turn
+turn_of last s = record { system = s; last = last s }
+
 -- the earlier one writes nothing that the later one touches
 abbrev pub IsFree : List TypeInfo → Turn → Turn → Type 0
 IsFree registry j k = (t : ℕ) → In t (writes j.system) → In t (touches registry k.system) → ⊥
