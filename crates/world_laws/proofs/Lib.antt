@@ -12,3 +12,4 @@ pub mod Blocks
 pub mod Kept
 pub mod Versions
 pub mod Meanings
+pub mod Examples

@@ -52,6 +52,6 @@ cell_at t cells = at_type cell_type t cells
 abbrev pub part_at : ℕ → List (PartOf Value) → Option (List Value)
 part_at t parts = option_map (λ p. p.values) (at_type part_type t parts)
 
--- the values of a type that a row has, switched off or not, its own or shared; none where it lacks the type
+-- the values of a type that a row has, disabled or not, its own or shared; none where it lacks the type
 abbrev pub values_of : ℕ → Found → Option (List Value)
 values_of t x = option_or (option_map (λ c. c.values) (cell_at t x.row.cells)) (part_at t x.home.shared)

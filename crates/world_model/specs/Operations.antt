@@ -88,7 +88,7 @@ cells_of registry parts = map cell_of (filter (λ p. not (is_shared_at registry 
 abbrev pub with_values : ℕ → (List Value → List Value) → List Cell → List Cell
 with_values t change cells = map (λ (c : Cell). record c { values = if nat_eq c.type_id t then change c.values else c.values }) cells
 
--- the cells with a type switched on or off
+-- the cells with a type enabled or disabled
 abbrev pub switched : ℕ → Bool → List Cell → List Cell
 switched t on cells = map (λ (c : Cell). record c { off = if nat_eq c.type_id t then not on else c.off }) cells
 

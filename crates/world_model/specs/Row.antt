@@ -4,7 +4,7 @@ use Rattle.ent_types.specs.declared.entity.Entity.{Entity}
 use Rattle.ent_types.specs.declared.value.Value.{Value}
 use Rattle.world_model.specs.Part.{PartOf}
 
--- What a row has of one type: its values, and whether the type is switched off in this row. The values of a buffer's
+-- What a row has of one type: its values, and whether the type is disabled in this row. The values of a buffer's
 -- elements stand one after another.
 pub record Cell : Type 0 where
   pub type_id : ℕ
@@ -21,6 +21,6 @@ pub record Row : Type 0 where
 abbrev pub cell_type : Cell → ℕ
 cell_type c = c.type_id
 
--- the cell that a part gives to a row, switched on
+-- the cell that a part gives to a row, enabled
 abbrev pub cell_of : PartOf Value → Cell
 cell_of p = record { type_id = p.type_id; values = p.values; off = false }

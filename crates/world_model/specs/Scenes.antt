@@ -53,7 +53,7 @@ put_element_ref e t k field to w = put_found t (k * length (fields_at w.registry
 
 -- ---- built
 
--- a node of a scene: an entity as the scene names it, its parts, and the types that are switched off
+-- a node of a scene: an entity as the scene names it, its parts, and the types that are disabled
 pub record Node : Type 0 where
   pub entity : Entity
   pub parts : List (PartOf Value)
@@ -63,10 +63,11 @@ pub record Node : Type 0 where
 abbrev pub scene_tag : ℕ → PartOf Value
 scene_tag load = record { type_id = SCENE_TAG.0; values = Int (pos load) ∷ [] }
 
--- the world with a type of an entity switched off
+-- the world with a type of an entity disabled
 abbrev pub switched_off : (List ℕ → ℕ) → Entity → World → ℕ → World
 switched_off capacity e w t = (operate capacity w (On e (SetEnabled t false))).world
 
+-- the world of an answer, with some types of the entity that was made disabled
 abbrev pub all_off : (List ℕ → ℕ) → List ℕ → Answer → World
 all_off capacity types a = by a.reply
   where
