@@ -1,5 +1,5 @@
 -- Versions stand for moments in a run: a run over versions gives the versions of the run over moments.
-use Rattle.std.proofs.Common.{◌≡◌, ℕ, ◌+◌, ◌<◌, inl, inr, Bool, true, false, not, ◌&&◌, ◌||◌, if◌then◌else◌, List, [], ◌∷◌, ◌++◌, map, find, Option, Some, None, option_map, refl, sym, ap, ap₂, ◌∙◌, subst, nat_lt, ltb-true, lt-ltb}
+use Rattle.std.proofs.Common.{◌≡◌, ℕ, ◌≤◌, ◌+◌, ◌<◌, inl, inr, Bool, true, false, not, ◌&&◌, ◌||◌, if◌then◌else◌, List, [], ◌∷◌, ◌++◌, map, find, Option, Some, None, option_map, refl, sym, ap, ap₂, ◌∙◌, subst, arith, nat_lt, ltb-true, lt-ltb}
 use Rattle.std.specs.List.{list_any, flat_map}
 use Rattle.std.specs.Bool.{Decides}
 use Rattle.ent_types.specs.declared.type_info.TypeInfo.{TypeInfo}
@@ -9,7 +9,7 @@ use Rattle.ent_types.specs.Versions.{version_of, is_later, IsVersion, IsMoment}
 use Rattle.ent_types.proofs.VersionLemmas.{version_of-next, is_later-moments}
 use Rattle.world_model.specs.Members.{In, tally, one_if}
 use Rattle.world_model.specs.World.{Mark, Block, World}
-use Rattle.world_model.specs.Found.{Found, placed_in, placed, is_of}
+use Rattle.world_model.specs.Found.{Found, is_of}
 use Rattle.world_model.specs.Write.{marked}
 use Rattle.world_model.specs.Lawful.{IsPast, IsLawful}
 use Rattle.world_model.specs.Versions.{mark_versions, block_versions, world_versions}

@@ -1,33 +1,28 @@
 -- What a run records suits the types of the world.
-use Rattle.std.proofs.Common.{◌≡◌, ℕ, zero, suc, ◌+◌, ◌-◌, ◌%◌, ◌<◌, ◌≤◌, inl, inr, Bool, true, false, not, ◌&&◌, if◌then◌else◌, List, [], ◌∷◌, ◌++◌, map, length, Option, Some, None, option_map, refl, sym, ap, ap₂, ◌∙◌, subst, arith, true≢false}
+use Rattle.std.proofs.Common.{◌≡◌, ℕ, suc, ◌+◌, ◌%◌, inl, inr, Bool, true, false, if◌then◌else◌, List, [], ◌∷◌, ◌++◌, map, length, Option, Some, None, option_map, refl, sym, ap, ◌∙◌, subst, arith, true≢false}
 use Rattle.std.specs.Prelude.{slice_index_or}
-use Rattle.std.specs.List.{flat_map}
 use Rattle.std.proofs.Math.Nat.{mod-eq_of_lt}
 use Rattle.std.proofs.lemmas.Bool.{and_from}
 use Rattle.ent_types.specs.declared.entity.Entity.{Entity}
-use Rattle.ent_types.specs.declared.entity.TypeId.{TypeId}
 use Rattle.ent_types.specs.declared.kinds.FieldKind.{FieldKind}
 use Rattle.ent_types.specs.declared.kinds.FieldKind.TheVariants.{I32, I64, Ref as RefKind}
 use Rattle.ent_types.specs.declared.type_info.FieldInfo.{FieldInfo}
 use Rattle.ent_types.specs.declared.type_info.TypeInfo.{TypeInfo}
 use Rattle.ent_types.specs.declared.value.Value.{Value}
 use Rattle.ent_types.specs.declared.value.Value.TheVariants.{Int, Ref}
-use Rattle.ent_types.specs.Fitting.{fit, fits_field, fits_fields, fits_type}
+use Rattle.ent_types.specs.Fitting.{fits_field, fits_fields, fits_type}
 use Rattle.ent_types.specs.Registries.{type_at}
 use Rattle.ent_types.specs.Types.{is_buffer, is_ref_kind}
-use Rattle.ent_types.specs.TypeLookups.{fields_at, field_kind_at, is_buffer_at}
+use Rattle.ent_types.specs.TypeLookups.{fields_at, field_kind_at}
 use Rattle.world_model.specs.Members.{In, AreDistinct}
 use Rattle.world_model.specs.Part.{PartOf, part_type, part_map}
 use Rattle.world_model.specs.Fits.{IsFitting}
-use Rattle.world_model.specs.Operations.{Operation, Create, On, Act, act_map, Destroy, Add, Remove, Set, SetShared, SetEnabled, Instantiate}
-use Rattle.world_model.specs.Lawful.{Suits}
-use Rattle.world_laws.proofs.Members.{in_append, in_map, map_in}
-use Rattle.expr_eval.specs.Values.{OwnRow, OtherRows, value, value_ref}
+use Rattle.world_model.specs.Operations.{On, Act, act_map, Destroy, Add, Remove, Set, SetShared, SetEnabled, Instantiate}
+use Rattle.world_laws.proofs.Members.{in_map}
+use Rattle.expr_eval.specs.Values.{OwnRow, OtherRows, value}
 use Rattle.expr_trees.specs.declared.tree.CommandText.{CommandText}
 use Rattle.expr_trees.specs.declared.tree.CommandText.TheVariants as texts
 use Rattle.expr_trees.specs.declared.tree.PartExpr.{PartExpr}
-use Rattle.expr_trees.specs.declared.tree.RefExpr.{RefExpr}
-use Rattle.expr_trees.specs.declared.tree.RefExpr.TheVariants as refs
 use Rattle.expr_trees.specs.declared.tree.ValueExpr.{ValueExpr}
 use Rattle.expr_trees.specs.declared.tree.ValueExpr.TheVariants as values
 use Rattle.scenario_record.specs.declared.record.CommandEntry.{CommandEntry}
@@ -36,7 +31,7 @@ use Rattle.world_model.specs.World.{World}
 use Rattle.run_model.specs.Clock.{Clock}
 use Rattle.run_model.specs.Job.{own_of, others_in}
 use Rattle.run_model.specs.Commands.{Target, Live, Placeholder, GivenValue, ActsOn, Recorded, target_of, given_ref, given_of, givens_from, part_given, change_of, is_recorded, recorded_as, recorded_from}
-use Rattle.run_model.specs.Run.{MatchedRow, Entry, RunResult, entries_at, cells_after, recorded_of, matched, run}
+use Rattle.run_model.specs.Run.{MatchedRow, Entry, entries_at, cells_after, recorded_of, matched, run}
 use Rattle.run_model.specs.Playback.{value_given, operation_of}
 use Rattle.run_laws.specs.Suits.{IsOfKind, AreOfKinds, PartSuits, CommandSuits, OperationSuits, AllSuit, SystemSuits}
 use Rattle.run_laws.proofs.Order.{in_flat_map}

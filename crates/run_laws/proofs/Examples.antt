@@ -247,7 +247,7 @@ unfolding run
 a_run = refl
 
 -- items are the visited blocks alone: the first block has no row that matches
-items_are_visited_blocks : map (λ (m : MatchedRow). (m.item, m.place)) (matched (moments 1) registry points_home None 0
+items_are_visited_blocks : map {B = ℕ × ℕ} (λ (m : MatchedRow). (m.item, m.place)) (matched (moments 1) registry points_home None 0
     (record {
       home = record { types = 4 ∷ 5 ∷ []; shared = [] };
       marks = record { type_id = 4; moment = 1 } ∷ record { type_id = 5; moment = 1 } ∷ [];

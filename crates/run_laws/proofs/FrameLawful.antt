@@ -1,21 +1,19 @@
 -- A step of a frame keeps a state lawful, in a run without scenes.
-use Rattle.std.proofs.Common.{◌≡◌, ℕ, ◌+◌, inl, inr, ◌⊎◌, Bool, true, false, not, List, [], ◌∷◌, ◌++◌, map, filter, fold, length, Option, Some, None, refl, sym, ap, ◌∙◌, subst, arith, slice_set}
+use Rattle.std.proofs.Common.{ℕ, ◌+◌, inl, inr, ◌⊎◌, Bool, not, List, [], ◌∷◌, map, filter, fold, Option, Some, None, refl, sym, ◌∙◌, subst, arith}
 use Rattle.ent_types.specs.declared.point.Point.{Point}
 use Rattle.ent_types.specs.declared.type_info.TypeInfo.{TypeInfo}
 use Rattle.world_model.specs.Members.{In}
-use Rattle.world_model.specs.World.{Block, World}
-use Rattle.world_model.specs.Operations.{Operation}
+use Rattle.world_model.specs.World.{World}
 use Rattle.world_model.specs.Lawful.{IsLawful, HasRoomForParts}
 use Rattle.world_laws.proofs.Members.{in_append, in_map, in_filter}
 use Rattle.scenario_record.specs.declared.record.SystemEntry.{SystemEntry}
 use Rattle.run_model.specs.Clock.{moments}
-use Rattle.run_model.specs.Run.{Entry, RunResult, run}
+use Rattle.run_model.specs.Run.{Entry, run}
 use Rattle.run_model.specs.Buffers.{SharedKey, shared_key}
-use Rattle.run_model.specs.Playback.{PlaybackState, done_by, playback}
-use Rattle.run_model.specs.Loads.{Load, SceneState, due_arrived, requested, unloaded}
+use Rattle.run_model.specs.Loads.{due_arrived}
 use Rattle.run_model.specs.Tasks.{FrameEvent, Operates, Loads, Unloads, FrameStep, DoesEvents, Plays, Runs, Task}
-use Rattle.run_model.specs.Frames.{Buffer, State, Course, waits_at, is_point, buffer_at, all_points, buffers_of, has_entry, last_run, raised, event_done, events_done, after_buffer, unless_shared, after_buffers, after_point, after_system, step_done, course_after, scenes_changed}
-use Rattle.run_laws.specs.Suits.{OperationSuits, EntrySuits, AllSuit, HasLawfulTexts, SystemSuits}
+use Rattle.run_model.specs.Frames.{Buffer, State, Course, waits_at, is_point, buffer_at, all_points, buffers_of, has_entry, last_run, raised, event_done, after_buffer, unless_shared, after_buffers, after_point, after_system, step_done, course_after, scenes_changed}
+use Rattle.run_laws.specs.Suits.{OperationSuits, AllSuit, SystemSuits}
 use Rattle.run_laws.specs.Lawful.{IsLawfulState, EventSuits, StepSuits, OnGoes}
 use Rattle.run_laws.proofs.RunLawful.{later_block, run_lawful, run_registry}
 use Rattle.run_laws.proofs.PlayLawful.{done_lawful, done_registry, played_lawful, played_registry}

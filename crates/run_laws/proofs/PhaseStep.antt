@@ -1,15 +1,12 @@
 -- A phase of systems that don't conflict, as one step of a run, is the steps of its systems one after another.
-use Rattle.std.proofs.Common.{◌≡◌, ℕ, zero, suc, ◌⊎◌, inl, inr, Bool, List, [], ◌∷◌, ◌++◌, map, Option, Some, None, refl, sym, ap, ap₂, ◌∙◌, subst, slice_set, slice_get, unwrap_or}
+use Rattle.std.proofs.Common.{◌≡◌, ℕ, zero, suc, inl, inr, Bool, List, [], ◌∷◌, map, Option, Some, None, refl, sym, ap, ap₂, ◌∙◌, slice_set, slice_get, unwrap_or}
 use Rattle.world_model.specs.Members.{In, AreDistinct}
-use Rattle.world_model.specs.World.{World}
-use Rattle.scenario_record.specs.declared.record.SystemEntry.{SystemEntry}
 use Rattle.run_model.specs.Clock.{Clock}
 use Rattle.run_model.specs.Run.{RunResult, run}
-use Rattle.run_model.specs.Frames.{State, Course, Goes, with_world, last_run, after_system, course_after, course_after_all}
-use Rattle.run_model.specs.Phases.{Turn, RunOutput, AreApart, world_each, outputs_each, joined, joined_outputs}
-use Rattle.run_model.specs.PhaseSteps.{Numbered, number_of, tasks_of_phase, turns_of, with_output, with_outputs, after_phase}
+use Rattle.run_model.specs.Frames.{State, Goes, with_world, last_run, after_system, course_after, course_after_all}
+use Rattle.run_model.specs.Phases.{Turn, AreApart, world_each, outputs_each}
+use Rattle.run_model.specs.PhaseSteps.{Numbered, number_of, tasks_of_phase, turns_of, with_outputs, after_phase}
 use Rattle.run_laws.proofs.Phases.{phase_law, all_free}
-use Rattle.run_laws.proofs.RunLawful.{run_registry}
 
 -- another place of a list is as before
 set_apart : {A : Type 0} (xs : List A) (n m : ℕ) (x : A) → (m ≡ n → ⊥) → slice_get (slice_set xs n x) m ≡ slice_get xs m

@@ -1,20 +1,19 @@
 -- Playback keeps a world lawful.
-use Rattle.std.proofs.Common.{◌≡◌, ℕ, List, [], ◌∷◌, inl, inr, Option, Some, None, refl, sym, ap, ◌∙◌, subst}
+use Rattle.std.proofs.Common.{◌≡◌, ℕ, List, [], ◌∷◌, inl, inr, Option, Some, None, refl, sym, ◌∙◌, subst}
 use Rattle.ent_types.specs.declared.entity.Entity.{Entity}
 use Rattle.ent_types.specs.declared.type_info.TypeInfo.{TypeInfo}
 use Rattle.ent_types.specs.declared.value.Value.{Value}
 use Rattle.ent_types.specs.Fitting.{null_entity}
-use Rattle.world_model.specs.Members.{In}
 use Rattle.world_model.specs.World.{World}
 use Rattle.world_model.specs.Part.{by_type}
 use Rattle.world_model.specs.Found.{Found, found}
-use Rattle.world_model.specs.Operations.{Act, Operation, Create, On, Outcome, Skips, Keeps, Writes, Moves, Ends, Makes, Answer, sight, decide, decide_create, apply, acted, operate}
-use Rattle.world_model.specs.Lawful.{IsLawful, HasRoomForParts, Suits}
+use Rattle.world_model.specs.Operations.{Act, Operation, Create, On, Outcome, Skips, Keeps, Writes, Moves, Ends, Makes, sight, decide, decide_create, apply, acted, operate}
+use Rattle.world_model.specs.Lawful.{IsLawful, HasRoomForParts}
 use Rattle.world_laws.proofs.Kept.{operate_lawful}
 use Rattle.run_model.specs.Run.{Entry}
 use Rattle.run_model.specs.Buffers.{before, arranged}
-use Rattle.run_model.specs.Playback.{PlaybackState, made_for, operation_of, done_by, answer_of, after_entry, after_entries, playback}
-use Rattle.run_laws.specs.Suits.{OperationSuits, EntrySuits, AllSuit}
+use Rattle.run_model.specs.Playback.{PlaybackState, made_for, operation_of, done_by, after_entry, after_entries, playback}
+use Rattle.run_laws.specs.Suits.{OperationSuits, AllSuit}
 use Rattle.run_laws.proofs.Sorts.{in_sorted}
 
 -- an operation leaves the registry

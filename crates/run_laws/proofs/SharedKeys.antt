@@ -1,5 +1,5 @@
 -- In playback order the first neighbours with one key and two items have the least shared key and its two least items.
-use Rattle.std.proofs.Common.{◌≡◌, ℕ, ℤ, ◌<◌, ◌≤◌, ◌⊎◌, inl, inr, nat_lt, nat_eq, Bool, true, false, ◌&&◌, ◌||◌, if◌then◌else◌, List, [], ◌∷◌, ◌++◌, map, filter, Option, Some, None, refl, sym, ap, ap₂, ◌∙◌, subst, arith, eqb-true, ltb-true, ltb-false, lt-ltb, true≢false}
+use Rattle.std.proofs.Common.{◌≡◌, ℕ, ℤ, ◌<◌, ◌≤◌, ◌⊎◌, inl, inr, nat_lt, nat_eq, Bool, true, false, ◌&&◌, ◌||◌, if◌then◌else◌, List, [], ◌∷◌, map, filter, Option, Some, None, refl, sym, ap, ap₂, ◌∙◌, subst, arith, eqb-true, ltb-true, ltb-false, lt-ltb, true≢false}
 use Rattle.std.specs.Prelude.{int_lt}
 use Rattle.std.specs.Ordering.{int_eq}
 use Rattle.std.specs.List.{flat_map}
@@ -188,6 +188,10 @@ neighbours_share x y ys h e = record {
         → shared_before (shared_by a b) (shared_by x y) ≡ true → ⊥
     never a b key less xa other g = true≢false (sym g ∙ by (int_lt a.command.key x.command.key) (int_eq a.command.key x.command.key) xa.0 (Decides-int_eq a.command.key x.command.key).0)
       where
+        items : x.item ≡ a.item → (b ≡ x) ⊎ (y.command.key ≡ b.command.key → y.item ≤ b.item) → a.command.key ≡ x.command.key → y.item ≤ b.item
+        items equal (inl e) same = let f : b.item ≡ x.item = ap (λ (u : Entry). u.item) e in absurd (omega arith)
+        items equal (inr at) same = at (sym (share_is x y e).0 ∙ (sym same ∙ key))
+
         by : (p q : Bool) → p ≡ false → (q ≡ true → a.command.key ≡ x.command.key)
             → (p || (q && (nat_lt a.item x.item || (nat_eq a.item x.item && nat_lt b.item y.item)))) ≡ false
         by true q e f = absurd (true≢false e)
@@ -196,10 +200,6 @@ neighbours_share x y ys h e = record {
             let same : a.command.key ≡ x.command.key = f refl in
             let low : x.item ≤ a.item = xa.1 (sym same) in
             not_earlier a.item b.item x.item y.item low (λ equal. items equal other same)
-
-        items : x.item ≡ a.item → (b ≡ x) ⊎ (y.command.key ≡ b.command.key → y.item ≤ b.item) → a.command.key ≡ x.command.key → y.item ≤ b.item
-        items equal (inl e) same = let f : b.item ≡ x.item = ap (λ (u : Entry). u.item) e in absurd (omega arith)
-        items equal (inr at) same = at (sym (share_is x y e).0 ∙ (sym same ∙ key))
 
 -- neighbours that don't share a key: what holds of the rest holds of all
 neighbours_apart : (x y : Entry) (ys : List Entry) → Ordered Le (x ∷ y ∷ ys) → share_key x y ≡ false → (r : Option SharedKey) → Describes (y ∷ ys) r → Describes (x ∷ y ∷ ys) r

@@ -1,16 +1,16 @@
 -- Versions stand for moments in each step of a run: the same lines are written, and the state has versions in the place of
 -- moments.
-use Rattle.std.proofs.Common.{◌≡◌, ℕ, ◌+◌, ◌≤◌, Bool, true, false, not, if◌then◌else◌, nat_eq, nat_le, List, [], ◌∷◌, ◌++◌, map, filter, fold, length, Option, Some, None, option_map, unwrap_or, refl, sym, ap, ap₂, ◌∙◌, subst, zero, suc, inl, inr, slice_get, slice_set}
+use Rattle.std.proofs.Common.{◌≡◌, ℕ, ◌+◌, ◌≤◌, Bool, true, false, not, if◌then◌else◌, nat_eq, nat_le, List, [], ◌∷◌, ◌++◌, map, filter, fold, length, Option, Some, None, option_map, refl, sym, ap, ap₂, ◌∙◌, zero, suc, inl, inr, slice_get, slice_set}
 use Rattle.ent_types.specs.declared.entity.Entity.{Entity}
 use Rattle.ent_types.specs.declared.point.Point.{Point}
 use Rattle.ent_types.specs.declared.value.Value.{Value}
-use Rattle.ent_types.specs.Versions.{version_of, next_version, IsVersion, IsMoment}
+use Rattle.ent_types.specs.Versions.{version_of, IsVersion}
 use Rattle.ent_types.proofs.VersionLemmas.{version_of-next}
 use Rattle.world_model.specs.Members.{In}
 use Rattle.world_model.specs.World.{Mark, Block, World}
-use Rattle.world_model.specs.Found.{Found, placed, alive_count}
+use Rattle.world_model.specs.Found.{Found, alive_count}
 use Rattle.world_model.specs.Ids.{room, with_ids_taken, with_id_taken}
-use Rattle.world_model.specs.Operations.{Operation, On, Destroy, Answer, operate}
+use Rattle.world_model.specs.Operations.{Operation, On, Destroy, Answer}
 use Rattle.world_model.specs.Scenes.{Renaming, value_renamed, arrivals, block_moved, moved, built}
 use Rattle.world_model.specs.Versions.{block_versions, world_versions, answer_versions}
 use Rattle.world_laws.proofs.Members.{map_append}
@@ -18,13 +18,13 @@ use Rattle.world_laws.proofs.Versions.{placed_turned, marks_turned, room_turned,
 use Rattle.scenario_record.specs.declared.record.SystemEntry.{SystemEntry}
 use Rattle.run_model.specs.declared.lines.NoteLine.TheVariants.{SceneArrived, SceneFull, Unloaded as UnloadedLine}
 use Rattle.run_model.specs.Clock.{moments, versions}
-use Rattle.run_model.specs.Run.{Entry, RunResult, run}
+use Rattle.run_model.specs.Run.{Entry, run}
 use Rattle.run_model.specs.Buffers.{SharedKey, shared_key, arranged}
-use Rattle.run_model.specs.Playback.{PlaybackState, made_for, operation_of, done_by, with_made, note_of, answer_of, after_entry, after_entries, playback}
+use Rattle.run_model.specs.Playback.{PlaybackState, made_for, operation_of, done_by, with_made, note_of, after_entry, after_entries, playback}
 use Rattle.run_model.specs.Loads.{SceneFile, Absent, TooLong, Faulty, Spelled, Load, LoadState, Requested, Arrived, Refused, Unloaded, SceneState, Arrival, scene_arrival, arrival_of, with_arrival, arrived, load_arrived, due_from, due_arrived, with_load, requested, is_tagged, tagged, destroyed, load_unloaded, load_named, unloaded_there, unloaded_at, unloaded}
 use Rattle.run_model.specs.Tasks.{FrameEvent, Operates, Loads, Unloads, FrameStep, DoesEvents, Plays, Runs, Task}
-use Rattle.run_model.specs.Frames.{Buffer, State, Course, Goes, Stops, Line, with_world, with_lines, with_scenes, scenes_changed, raised, operation_done, event_done, events_done, with_played, after_buffer, unless_shared, after_buffers, play_lines, after_waiting, after_point, waits_at, last_run, run_line, with_run, after_system, step_done, course_after, buffers_of}
-use Rattle.run_laws.specs.Versions.{run_versions, state_versions, course_versions, IsLast, HasMoments, StateHasMoments}
+use Rattle.run_model.specs.Frames.{Buffer, State, Course, Goes, with_lines, with_scenes, scenes_changed, raised, operation_done, event_done, events_done, with_played, after_buffer, unless_shared, after_buffers, play_lines, after_point, waits_at, last_run, with_run, after_system, step_done, course_after}
+use Rattle.run_laws.specs.Versions.{state_versions, course_versions, IsLast, StateHasMoments}
 use Rattle.run_laws.proofs.Clocks.{versions_run}
 
 -- ---- playback and scenes, for any function from moments

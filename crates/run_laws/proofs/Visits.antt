@@ -1,13 +1,13 @@
 -- The items of a run are its visits, and the rows on which it works are the matching rows of the visits.
-use Rattle.std.proofs.Common.{◌≡◌, ℕ, suc, ◌+◌, Bool, true, false, if◌then◌else◌, List, [], ◌∷◌, ◌++◌, map, length, Option, refl, ap, ap₂, ◌∙◌, arith}
+use Rattle.std.proofs.Common.{◌≡◌, ℕ, ◌+◌, Bool, true, false, if◌then◌else◌, List, [], ◌∷◌, ◌++◌, map, length, Option, refl, ap, ap₂, arith}
 use Rattle.ent_types.specs.declared.type_info.TypeInfo.{TypeInfo}
 use Rattle.world_model.specs.Members.{tally, one_if}
 use Rattle.world_model.specs.Row.{Row}
 use Rattle.world_model.specs.World.{Home, Block}
 use Rattle.scenario_record.specs.declared.record.SystemEntry.{SystemEntry}
 use Rattle.run_model.specs.Clock.{Clock}
-use Rattle.run_model.specs.Query.{PlacedRow, Visit, matches, is_visited, matching_rows, visits}
-use Rattle.run_model.specs.Run.{MatchedRow, matched_in, item_after, matched, rows_of_visits}
+use Rattle.run_model.specs.Query.{PlacedRow, matches, is_visited, matching_rows, visits}
+use Rattle.run_model.specs.Run.{MatchedRow, matched_in, matched, rows_of_visits}
 
 module _ (clock : Clock) (registry : List TypeInfo) (s : SystemEntry) (last : Option ℕ) where
   pub visits_counted : (bs : List Block) → tally (is_visited registry clock s last) bs ≡ length (visits registry clock s last bs)

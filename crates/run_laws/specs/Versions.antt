@@ -1,5 +1,5 @@
 -- A run over versions of 32 bits in the place of moments.
-use Rattle.std.specs.Prelude.{ℕ, ◌≤◌, List, map, Option, Some, None, option_map}
+use Rattle.std.specs.Prelude.{ℕ, ◌≤◌, map, Option, Some, None, option_map}
 use Rattle.ent_types.specs.Versions.{IsMoment}
 use Rattle.world_model.specs.Members.{In}
 use Rattle.world_model.specs.World.{Mark, Block, World}
