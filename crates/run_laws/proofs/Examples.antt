@@ -31,14 +31,16 @@ use Rattle.scenario_record.specs.declared.record.CommandEntry.{CommandEntry}
 use Rattle.expr_trees.specs.declared.tree.RefExpr.TheVariants as refs
 use Rattle.expr_trees.specs.declared.tree.ValueExpr.TheVariants as values
 use Rattle.scenario_record.specs.declared.record.SystemEntry.{SystemEntry}
-use Rattle.run_model.specs.declared.lines.NoteLine.TheVariants.{CommandSkip, Unplayed, KeyShared}
+use Rattle.run_model.specs.declared.lines.NoteLine.TheVariants.{CommandSkip, Unplayed, KeyShared, SceneArrived, SceneAbsent, Unloaded as UnloadedLine, UnloadCancelled, UnloadNone, ScenePending}
 use Rattle.run_model.specs.Clock.{moments}
 use Rattle.run_model.specs.Query.{matches, passes, has_shared, is_visited}
 use Rattle.run_model.specs.Commands.{Live, Placeholder, MadeBy, Change, Creates, ActsOn, Recorded, recorded_by}
 use Rattle.run_model.specs.Run.{MatchedRow, Entry, matched, run}
 use Rattle.run_model.specs.Buffers.{arranged, shared_key}
 use Rattle.run_model.specs.Playback.{playback}
+use Rattle.world_model.specs.Scenes.{built, moved}
 use Rattle.run_model.specs.Job.{no_row}
+use Rattle.run_model.specs.Loads.{Absent, Spelled, Load, LoadState, Requested, Arrived, Refused, Unloaded, SceneState, due_from, due_arrived, requested, unloaded, pending_lines}
 use Rattle.run_model.specs.Tasks.{no_others, runs_in}
 use Rattle.run_model.specs.Frames.{Buffer, State, Stops, Noted, buffers_of, after_point, after_system, end_of, Finished}
 use Rattle.run_model.specs.Phases.{conflicts, phases}
@@ -352,17 +354,17 @@ placeholders_are_replaced : (playback (λ types. 128) one_link (says 0 (Creates 
 unfolding playback arranged operate enter leave rewrite
 placeholders_are_replaced = refl
 
-the_second_destroy_is_skipped : (playback (λ types. 128) one_link (says 0 (Creates []) ∷ set_link ∷ destroy_made 2 ∷ destroy_made 3 ∷ [])).notes
-    ≡ record { entry = destroy_made 3; cause = NoEntity } ∷ []
+later_destroys_are_skipped : (playback (λ types. 128) one_link (says 0 (Creates []) ∷ set_link ∷ destroy_made 2 ∷ destroy_made 3 ∷ destroy_made 4 ∷ [])).notes
+    ≡ record { entry = destroy_made 3; cause = NoEntity } ∷ record { entry = destroy_made 4; cause = NoEntity } ∷ []
 unfolding playback arranged operate enter leave rewrite
-the_second_destroy_is_skipped = refl
+later_destroys_are_skipped = refl
 
 -- a target that wasn't made is skipped, and as a value it is null
 what_wasnt_made : (playback (λ types. 128) (linked (entity 9)) (set_link ∷ destroy_made 2 ∷ [])).world ≡ linked null_entity
 unfolding playback arranged operate enter leave rewrite
 what_wasnt_made = refl
 
--- two rows that each make an entity and link to it
+-- two rows that each make an entity, and later link to it
 
 abbrev two_links : World
 two_links = record one_link {
@@ -376,7 +378,7 @@ two_links = record one_link {
 }
 
 abbrev at_row : ℕ → ℕ → Change → Entry
-at_row place number change = record { item = 0; place = place; command = record { key = pos 0; point = EndSimulation; number = number; change = change } }
+at_row place number change = record { item = 0; place = place; command = record { key = pos number; point = EndSimulation; number = number; change = change } }
 
 abbrev links_itself : ℕ → Entry
 links_itself place = at_row place 1 (ActsOn (Live (entity place)) (Set (record { type_id = 5; values = MadeBy 0 ∷ [] })))
@@ -434,3 +436,46 @@ a_watcher_conflicts_with_the_writer = refl
 phases_of_three : phases registry (points_home ∷ asks (5 ∷ []) [] [] [] [] ∷ points_home ∷ [])
     ≡ (points_home ∷ asks (5 ∷ []) [] [] [] [] ∷ []) ∷ (points_home ∷ []) ∷ []
 phases_of_three = refl
+
+-- ---- scenes: the load A is due in frame 2, B arrived, C was refused
+
+abbrev load : ℕ → ℕ → LoadState → Load
+load name due state = record { name = name ∷ []; due = due; file = Absent; state = state }
+
+abbrev three_loads : SceneState
+three_loads = record { world = one_link; loads = load 65 2 Requested ∷ load 66 1 Arrived ∷ load 67 1 Refused ∷ []; lines = [] }
+
+none_is_due_yet : due_from 1 0 three_loads.loads ≡ []
+none_is_due_yet = refl
+
+one_is_due : due_from 2 0 three_loads.loads ≡ 0 ∷ []
+one_is_due = refl
+
+an_absent_file_is_refused_when_due : due_arrived (λ types. 128) 2 three_loads
+    ≡ record three_loads { loads = load 65 2 Refused ∷ load 66 1 Arrived ∷ load 67 1 Refused ∷ []; lines = SceneAbsent (65 ∷ []) 2 ∷ [] }
+an_absent_file_is_refused_when_due = refl
+
+what_isnt_due_is_cancelled : unloaded (λ types. 128) 1 (65 ∷ []) three_loads
+    ≡ record three_loads { loads = load 65 2 Unloaded ∷ load 66 1 Arrived ∷ load 67 1 Refused ∷ []; lines = UnloadCancelled (65 ∷ []) 1 ∷ [] }
+what_isnt_due_is_cancelled = refl
+
+what_was_refused_isnt_there : unloaded (λ types. 128) 1 (67 ∷ []) three_loads ≡ record three_loads { lines = UnloadNone (67 ∷ []) 1 ∷ [] }
+what_was_refused_isnt_there = refl
+
+what_wasnt_requested_isnt_there : unloaded (λ types. 128) 1 (68 ∷ []) three_loads ≡ record three_loads { lines = UnloadNone (68 ∷ []) 1 ∷ [] }
+what_wasnt_requested_isnt_there = refl
+
+what_arrived_ends : (unloaded (λ types. 128) 1 (66 ∷ []) three_loads).lines ≡ UnloadedLine (66 ∷ []) 1 0 ∷ []
+what_arrived_ends = refl
+
+-- with a delay of 0 a scene arrives at once
+arrives_at_once : (requested (λ types. 128) 3 (Spelled []) (68 ∷ []) 0 three_loads).lines ≡ SceneArrived (68 ∷ []) 3 0 ∷ []
+unfolding built moved
+arrives_at_once = refl
+
+arrives_later : requested (λ types. 128) 3 Absent (68 ∷ []) 2 three_loads
+    ≡ record three_loads { loads = load 65 2 Requested ∷ load 66 1 Arrived ∷ load 67 1 Refused ∷ load 68 5 Requested ∷ [] }
+arrives_later = refl
+
+what_waits_is_pending : pending_lines three_loads.loads ≡ ScenePending (65 ∷ []) ∷ []
+what_waits_is_pending = refl
