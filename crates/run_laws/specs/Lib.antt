@@ -1,0 +1,5 @@
+pub mod Agree
+pub mod Entries
+pub mod Versions
+pub mod Suits
+pub mod Lawful

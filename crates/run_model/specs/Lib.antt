@@ -1,0 +1,13 @@
+pub mod Clock
+pub mod Query
+pub mod Touched
+pub mod Job
+pub mod Commands
+pub mod Run
+pub mod Buffers
+pub mod Playback
+pub mod Loads
+pub mod Tasks
+pub mod Frames
+pub mod Phases
+pub mod PhaseSteps
