@@ -1,2 +1,5 @@
-pub mod Settling
+pub mod Passing
+pub mod Tails
+pub mod Things
 pub mod TokenSteps
+pub mod Values

@@ -1,23 +1,24 @@
-//! The reader of the little language: its texts to trees or their first fault, over any names.
+//! The parser of the expression language, over any names: texts to trees, or their first fault.
+//!
+//! It is a predictive parser with two stacks and no recursion. The stack of what is *expected* says how the text may go
+//! on. The stack of *operands* has the trees that were read. A token is *accepted* by the first expected thing that it
+//! may begin, after others that may stand for no token. The parser then *expands* that thing, and *reduces* operands to
+//! trees as expected things end.
 #![tactic(auto)]
 
-mod assigns;
-mod begin;
-mod build;
+mod accept;
 mod cause;
-mod command;
-mod commands;
-mod fill;
+mod expand;
+mod expected;
+mod moves;
 mod names;
-mod pending;
+mod operands;
 mod read;
-mod settle;
+mod readers;
+mod reduce;
 mod stack;
-mod texts;
-mod tops;
+mod step;
 mod verbs;
 
-pub use assigns::{read_assign_by, read_switch_by};
-pub use commands::read_command_by;
 pub use names::Names;
-pub use texts::{read_expr_by, read_ref_by};
+pub use readers::{read_assign_by, read_command_by, read_expr_by, read_ref_by, read_switch_by};

@@ -4,19 +4,21 @@ ghost use Rattle.expr_tokens.specs.Seen.{seen, token_seen};
 ghost use Rattle.expr_grammar.specs.Machine.{settle, finish, run};
 ghost use Rattle.expr_grammar.specs.Stops.{Halts, Stops};
 ghost use Rattle.expr_grammar.specs.Readings.{OutOfMemory, Reads, Refuses};
+ghost use Rattle.expr_machine.specs.Expecting.{symbols, Follows};
 
 use crate::cause::{LIMIT, cause_at};
+use crate::expected::Expected;
 use crate::names::Names;
-use crate::settle::{end_first, may_finish, settle};
 use crate::stack::Stack;
-use expr_grammar::{Built, ExprCause, ExprFault, Symbol};
+use crate::step::{end_first, may_finish, settle};
+use expr_grammar::{Built, ExprCause, ExprFault};
 use expr_tokens::{Lexeme, tokens};
 use std::alloc::Global;
 
 /// The greatest number of bytes of a text.
 const LONGEST: usize = 1024;
 
-/// Memory ran out.
+/// Returns the fault if memory runs out.
 pub(crate) fn out_of_memory() -> ExprFault
     ensures { OutOfMemory result }
 {
@@ -26,24 +28,24 @@ pub(crate) fn out_of_memory() -> ExprFault
     }
 }
 
-/// Takes the next token.
+/// Takes the next token, or returns why it isn't taken.
 fn step<N: Names>(
     alloc: Global,
     names: &N,
-    waits: &mut Stack<Symbol>,
-    built: &mut Stack<Built>,
+    expected: &mut Stack<Expected>,
+    operands: &mut Stack<Built>,
     lexeme: Lexeme<'_>,
 ) -> Result<(), ExprFault>
-    ensures taken { OnOk result (settle (N.scope names.now) 64 waits.old built.old (token_seen lexeme.entry.token) ≡ Some (record { waits = waits.new; built = built.new })) }
-    ensures refused { IfErr result (λ f. OutOfMemory f ⊎ Halts (N.scope names.now) 64 (record { waits = waits.old; built = built.old }) (seen lexeme.entry ∷ []) 0 f.cause f.at) }
+    ensures taken { OnOk result (Follows (settle (N.scope names.now) 64 (symbols expected.old) operands.old (token_seen lexeme.entry.token)) (record { waits = symbols expected.new; built = operands.new })) }
+    ensures refused { IfErr result (λ f. OutOfMemory f ⊎ Halts (N.scope names.now) 64 (record { waits = symbols expected.old; built = operands.old }) (seen lexeme.entry ∷ []) 0 f.cause f.at) }
 {
-    match settle(alloc, names, LIMIT, waits, built, lexeme.token) {
+    match settle(alloc, names, LIMIT, expected, operands, lexeme.token) {
         Ok(taken) => {
             if taken {
                 return Ok(());
             }
             Err(ExprFault {
-                cause: cause_at(names, waits, lexeme.token),
+                cause: cause_at(names, expected, lexeme.token),
                 at: lexeme.at,
             })
         }
@@ -51,56 +53,56 @@ fn step<N: Names>(
     }
 }
 
-/// What is built where the tokens end.
+/// Returns what is built where the tokens end.
 fn finish(
     alloc: Global,
-    waits: Stack<Symbol>,
-    built: Stack<Built>,
+    expected: Stack<Expected>,
+    operands: Stack<Built>,
     end: u32,
 ) -> Result<Stack<Built>, ExprFault>
-    ensures { MatchResult result (λ ws. finish waits built ≡ Some ws) (λ f. OutOfMemory f ⊎ ((finish waits built ≡ None) × (f.cause ≡ ExprCause.Unexpected) × (f.at ≡ end))) }
+    ensures { MatchResult result (λ ws. finish (symbols expected) operands ≡ Some ws) (λ f. OutOfMemory f ⊎ ((finish (symbols expected) operands ≡ None) × (f.cause ≡ ExprCause.Unexpected) × (f.at ≡ end))) }
 {
-    if !may_finish(&waits) {
+    if !may_finish(&expected) {
         return Err(ExprFault {
             cause: ExprCause::Unexpected,
             at: end,
         });
     }
-    let mut waits = waits;
-    let mut built = built;
-    let count = waits.len();
-    match end_first(alloc, count, &mut waits, &mut built) {
-        Ok(()) => Ok(built),
+    let mut expected = expected;
+    let mut operands = operands;
+    let count = expected.len();
+    match end_first(alloc, count, &mut expected, &mut operands) {
+        Ok(()) => Ok(operands),
         Err(_) => Err(out_of_memory()),
     }
 }
 
-/// What the tokens build, or where they stop.
+/// Returns what the tokens build, or where they stop.
 fn read_tokens<N: Names>(
     alloc: Global,
     names: &N,
-    waits: Stack<Symbol>,
+    expected: Stack<Expected>,
     lexemes: &[Lexeme<'_>],
     end: u32,
 ) -> Result<Stack<Built>, ExprFault>
-    ensures { MatchResult result (λ ws. run (N.scope names.now) 64 waits [] (map (λ p. p.token) (map seen lexemes.now)) ≡ Some ws) (λ f. OutOfMemory f ⊎ Stops (N.scope names.now) 64 waits (map seen lexemes.now) end f.cause f.at) }
+    ensures { MatchResult result (λ ws. run (N.scope names.now) 64 (symbols expected) [] (map (λ p. p.token) (map seen lexemes.now)) ≡ Some ws) (λ f. OutOfMemory f ⊎ Stops (N.scope names.now) 64 (symbols expected) (map seen lexemes.now) end f.cause f.at) }
 {
-    let mut waits = waits;
-    let mut built = Stack::new(alloc);
+    let mut expected = expected;
+    let mut operands = Stack::new(alloc);
     for lexeme in lexemes {
-        step(alloc, names, &mut waits, &mut built, *lexeme)?;
+        step(alloc, names, &mut expected, &mut operands, *lexeme)?;
     }
-    finish(alloc, waits, built, end)
+    finish(alloc, expected, operands, end)
 }
 
-/// What the text builds, or why it isn't read.
+/// Returns what the text builds, or why it isn't read.
 pub(crate) fn read_text<N: Names>(
     alloc: Global,
     names: &N,
-    waits: Stack<Symbol>,
+    expected: Stack<Expected>,
     text: &str,
 ) -> Result<Stack<Built>, ExprFault>
-    ensures { MatchResult result (λ ws. Reads (N.scope names.now) waits text.now ws) (λ f. Refuses (N.scope names.now) waits text.now f) }
+    ensures { MatchResult result (λ ws. Reads (N.scope names.now) (symbols expected) text.now ws) (λ f. Refuses (N.scope names.now) (symbols expected) text.now f) }
 {
     let bytes = text.as_bytes();
     if bytes.len() > LONGEST {
@@ -110,7 +112,13 @@ pub(crate) fn read_text<N: Names>(
         });
     }
     match tokens(alloc, bytes) {
-        Ok(lexemes) => read_tokens(alloc, names, waits, lexemes.as_slice(), bytes.len() as u32),
+        Ok(lexemes) => read_tokens(
+            alloc,
+            names,
+            expected,
+            lexemes.as_slice(),
+            bytes.len() as u32,
+        ),
         Err(_) => Err(out_of_memory()),
     }
 }

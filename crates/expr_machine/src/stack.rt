@@ -1,12 +1,12 @@
-//! A stack, which contracts see as the list of its elements from the top.
+//! A stack.
 ghost use Rattle.std.specs.Prelude.{◌≡◌, ◌<◌, [], ◌∷◌, drop, length, slice_index_or, OnOk, MatchOption};
 
 use ent_types::Memory;
 use std::alloc::Global;
 use std::marker::Model;
 
-/// A stack, which contracts see as the list of its elements from the top.
-#[derive(Debug, Drop)]
+/// A stack. Contracts see the list of its elements from the top.
+#[derive(Drop)]
 pub(crate) struct Stack<T> {
     items: Vec<T>,
 }
@@ -23,7 +23,7 @@ impl<T> Model for Stack<T> {
 }
 
 impl<T> Stack<T> {
-    /// The empty stack. It takes no memory until something is pushed.
+    /// Returns the empty stack. It takes no memory until something is pushed.
     pub(crate) fn new(alloc: Global) -> Stack<T>
         ensures { result ≡ [] }
     {
@@ -32,14 +32,22 @@ impl<T> Stack<T> {
         }
     }
 
-    /// The number of elements.
+    /// Returns the number of elements.
     pub(crate) fn len(&self) -> usize
         ensures { result ≡ length self.now }
     {
         self.items.len()
     }
 
-    /// Takes the element at the top.
+    /// Returns the element at a place from 0, counted from the top.
+    pub(crate) fn at(&self, depth: usize) -> &T
+        requires { depth < length self.now }
+        ensures { result.now ≡ slice_index_or self.now depth result.now }
+    {
+        &self.items[self.items.len() - 1 - depth]
+    }
+
+    /// Pops the element at the top.
     pub(crate) fn pop(&mut self) -> Option<T>
         ensures { MatchOption result ((self.old ≡ []) × (self.new ≡ [])) (λ x. self.old ≡ x ∷ self.new) }
     {
@@ -48,7 +56,7 @@ impl<T> Stack<T> {
 }
 
 impl<T: Drop> Stack<T> {
-    /// Puts an element on top.
+    /// Pushes an element.
     pub(crate) fn push(&mut self, item: T) -> Result<(), Memory>
         ensures { OnOk result (self.new ≡ item ∷ self.old) }
     {
@@ -56,7 +64,7 @@ impl<T: Drop> Stack<T> {
         Ok(())
     }
 
-    /// Puts two elements on top, the first one above the second.
+    /// Pushes two elements, the first one above the second.
     pub(crate) fn push_two(&mut self, first: T, second: T) -> Result<(), Memory>
         ensures { OnOk result (self.new ≡ first ∷ second ∷ self.old) }
     {
@@ -64,7 +72,7 @@ impl<T: Drop> Stack<T> {
         self.push(first)
     }
 
-    /// Puts three elements on top, the first one above the others.
+    /// Pushes three elements, the first one above the others.
     pub(crate) fn push_three(&mut self, first: T, second: T, third: T) -> Result<(), Memory>
         ensures { OnOk result (self.new ≡ first ∷ second ∷ third ∷ self.old) }
     {
@@ -72,41 +80,17 @@ impl<T: Drop> Stack<T> {
         self.push(first)
     }
 
-    /// Puts four elements on top, the first one above the others.
-    pub(crate) fn push_four(
-        &mut self,
-        first: T,
-        second: T,
-        third: T,
-        fourth: T,
-    ) -> Result<(), Memory>
-        ensures { OnOk result (self.new ≡ first ∷ second ∷ third ∷ fourth ∷ self.old) }
-    {
-        self.push_two(third, fourth)?;
-        self.push_two(first, second)
-    }
-
-    /// Takes the element at the top away, if there is one.
+    /// Drops the element at the top, if there is one.
     pub(crate) fn lower(&mut self)
         ensures { self.new ≡ drop 1 self.old }
     {
         let _ = self.pop();
     }
 
-    /// Takes all elements away.
+    /// Drops all elements.
     pub(crate) fn clear(&mut self)
         ensures { self.new ≡ [] }
     {
         self.items.clear();
-    }
-}
-
-impl<T: Copy> Stack<T> {
-    /// The element at a place from 0, counted from the top.
-    pub(crate) fn at(&self, depth: usize) -> T
-        requires { depth < length self.now }
-        ensures { result ≡ slice_index_or self.now depth result }
-    {
-        self.items[self.items.len() - 1 - depth]
     }
 }

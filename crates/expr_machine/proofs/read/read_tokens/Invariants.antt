@@ -1,8 +1,8 @@
-use Rattle.std.proofs.Common.{◌≡◌, [], Some}
-use Rattle.expr_grammar.specs.Machine.{steps}
-use Rattle.expr_machine.proofs.TokenSteps.{token_front}
+use Rattle.std.proofs.Common.{[]}
+use Rattle.expr_machine.specs.Expecting.{symbols}
+use Rattle.expr_machine.proofs.TokenSteps.{StandsAt}
 use Rattle.expr_machine.proofs.read.read_tokens.Given as goal
 
 abbrev pub invariant-loop-lexeme : goal.invariant-loop-lexeme
 invariant-loop-lexeme g l =
-    steps (g.N.Names.scope l.names) 64 (record { waits = l.fn.waits; built = [] }) (token_front l.lexeme-index l.lexemes) ≡ Some (record { waits = l.waits; built = l.built })
+    StandsAt (g.N.Names.scope l.names) (symbols l.fn.expected) l.lexemes l.lexeme-index (record { waits = symbols l.expected; built = l.operands })
