@@ -2,23 +2,21 @@
 //! does nothing, whose contract is the law.
 #![tactic(auto)]
 
-ghost use Rattle.std.specs.Prelude.{◌≡◌, ℕ, ◌<◌, ◌≤◌, nat_eq, true, false, List, [], ◌∷◌, map, length, pos, None, Some};
+ghost use Rattle.std.specs.Prelude.{◌≡◌, ℕ, ◌<◌, ◌≤◌, true, List, map, pos, None, Some};
 ghost use Rattle.ent_types.specs.declared.entity.Entity.{Entity};
 ghost use Rattle.ent_types.specs.declared.kinds.FieldKind.TheVariants.{I64};
-ghost use Rattle.ent_types.specs.declared.limits.TheConstants.{MOST_ENTITIES};
 ghost use Rattle.ent_types.specs.declared.type_info.TypeInfo.{TypeInfo};
 ghost use Rattle.ent_types.specs.declared.value.Value.TheVariants.{Int};
 ghost use Rattle.ent_types.specs.Fitting.{null_entity, fits_field};
 ghost use Rattle.ent_types.specs.Registries.{IsLawfulRegistry};
 ghost use Rattle.world_model.specs.Members.{In, AreDistinct};
-ghost use Rattle.world_model.specs.Part.{part_type, by_type};
 ghost use Rattle.world_model.specs.World.{World, capacity};
 ghost use Rattle.world_model.specs.Found.{Found, placed, found, alive_count, entities_by_index};
 ghost use Rattle.world_model.specs.Ids.{room, next_ids};
 ghost use Rattle.world_model.specs.Operations.{Operation, operate};
 ghost use Rattle.world_model.specs.Lawful.{IsLawful, HasRoomForParts, Suits};
 ghost use Rattle.world_model.specs.Versions.{world_versions, answer_versions, IsLawfulCode};
-ghost use Rattle.world_model.specs.Scenes.{Node, IsLawfulNode, scene_tag, built, renamed, value_renamed, arrivals, row_moved, attached, moved};
+ghost use Rattle.world_model.specs.Scenes.{Node, IsLawfulNode, built, renamed, value_renamed, arrivals, row_moved, attached, moved};
 
 /// Where a block has room for rows of some types, it has room for rows of a part of them.
 #[tactic(auto, using(crate::proofs::Meanings::capacity_fits))]
@@ -63,16 +61,11 @@ pub fn code_stays_lawful()
         → IsLawfulCode capacity code → IsLawfulCode capacity (operate capacity code operation).world }
 {}
 
-/// The world of lawful nodes is lawful. If the types of each node have room, the entities are in the order of the nodes:
-/// node `k` is the entity with index `k` and version 1.
+/// The world of lawful nodes is lawful.
 pub fn built_scenes_are_lawful()
-    ensures lawful { (capacity : List ℕ → ℕ) → HasRoomForParts capacity → (registry : List TypeInfo) → IsLawfulRegistry registry
+    ensures { (capacity : List ℕ → ℕ) → HasRoomForParts capacity → (registry : List TypeInfo) → IsLawfulRegistry registry
         → (load : ℕ) → fits_field I64 (Int (pos load)) ≡ true → (nodes : List Node) → ((node : Node) → In node nodes → IsLawfulNode registry node)
         → IsLawful capacity (built capacity registry nodes load) }
-    ensures order { (capacity : List ℕ → ℕ) → HasRoomForParts capacity → (registry : List TypeInfo) → IsLawfulRegistry registry
-        → (load : ℕ) → fits_field I64 (Int (pos load)) ≡ true → (nodes : List Node) → ((node : Node) → In node nodes → IsLawfulNode registry node)
-        → ((node : Node) → In node nodes → nat_eq (capacity (map part_type (by_type (scene_tag load ∷ node.parts)))) 0 ≡ false) → length nodes ≤ MOST_ENTITIES
-        → entities_by_index (built capacity registry nodes load) ≡ next_ids (length nodes) [] 0 1 }
 {}
 
 /// A lawful world with room for the entities of a lawful scene is lawful after the scene was moved in or attached.
