@@ -9,7 +9,7 @@ use Rattle.ent_types.proofs.VersionLemmas.{version_of-next}
 use Rattle.world_model.specs.Members.{In}
 use Rattle.world_model.specs.World.{Mark, Block, World}
 use Rattle.world_model.specs.Found.{Found, alive_count}
-use Rattle.world_model.specs.Ids.{room, with_ids_taken, with_id_taken}
+use Rattle.world_model.specs.Ids.{room, with_ids_taken}
 use Rattle.world_model.specs.Operations.{Operation, On, Destroy, Answer}
 use Rattle.world_model.specs.Scenes.{Renaming, value_renamed, arrivals, block_moved, moved, built}
 use Rattle.world_model.specs.Versions.{block_versions, world_versions, answer_versions}
@@ -53,8 +53,7 @@ module _ (v : ℕ → ℕ) (capacity : List ℕ → ℕ) where
   -- ---- scenes moved in
 
   ids_turned : (n : ℕ) (w : World) → with_ids_taken n (world_versions v w) ≡ world_versions v (with_ids_taken n w)
-  ids_turned zero w = refl
-  ids_turned (suc n) w = ids_turned n (with_id_taken w)
+  ids_turned n w = refl
 
   moved_blocks : (now : ℕ) (rs : List Renaming) (change : Value → Value) (bs : List Block) → map (block_moved (v now) rs change) bs ≡ map (block_versions v) (map (block_moved now rs change) bs)
   moved_blocks now rs change [] = refl
