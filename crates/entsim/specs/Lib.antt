@@ -1,6 +1,6 @@
-pub mod CheckLine
-pub mod ErrorLines
-pub mod Headline
-pub mod Outcome
-pub mod Stops
-pub mod Words
+pub use Rattle.entsim_commands.specs.CheckLine
+pub use Rattle.entsim_commands.specs.ErrorLines
+pub use Rattle.entsim_commands.specs.Headline
+pub use Rattle.entsim_commands.specs.Outcome
+pub use Rattle.entsim_commands.specs.Stops
+pub use Rattle.entsim_commands.specs.Words

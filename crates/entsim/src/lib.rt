@@ -1,14 +1,7 @@
-//! `entsim` as calls: the command line, what each command writes, and the one call that does a command.
+//! `entsim` as one call: it does the command that the words name. `entsim_commands` has each command as a call.
 #![tactic(auto)]
 
-mod calls;
-mod check_line;
-mod commands;
-mod refusal;
-mod stop;
 mod top;
-mod words;
 
-pub use calls::{check_call, run_call};
+pub use entsim_commands::{Command, check_call, read_words, run_call};
 pub use top::entsim;
-pub use words::{Command, read_words};

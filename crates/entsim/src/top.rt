@@ -1,14 +1,12 @@
 //! The top call: from the words and the files to the text and the status.
 ghost use Rattle.std.specs.Prelude.{◌≡◌, map, string_bytes, IfSome};
 ghost use Rattle.ent_io.specs.Status.{StatusCauses};
-ghost use Rattle.entsim.specs.Words.{command_of, command_view};
-ghost use Rattle.entsim.specs.Outcome.{command_outcome, outcome};
-ghost use Rattle.entsim.specs.Headline.{Ends, OfCommand, WordsDecide};
+ghost use Rattle.entsim_commands.specs.Words.{command_of, command_view};
+ghost use Rattle.entsim_commands.specs.Outcome.{command_outcome, outcome};
+ghost use Rattle.entsim_commands.specs.Headline.{Ends, OfCommand, WordsDecide};
 
-use crate::calls::{check_call, refuse, refuse_words, run_call};
-use crate::stop::Refusal;
-use crate::words::{Command, read_words};
 use ent_io::{Gate, Sink, Status, Store};
+use entsim_commands::{Command, Refusal, check_call, read_words, refuse, refuse_words, run_call};
 use std::alloc::Global;
 use std::sync::Wait;
 use std::thread::Threads;

@@ -1,0 +1,13 @@
+//! The commands of `entsim` as calls: the command line, the line of each refusal, and what each command writes.
+#![tactic(auto)]
+
+mod calls;
+mod check_line;
+mod commands;
+mod refusal;
+mod stop;
+mod words;
+
+pub use calls::{check_call, refuse, refuse_words, run_call};
+pub use stop::Refusal;
+pub use words::{Command, read_words};
