@@ -12,7 +12,7 @@ pub mod TypeSetLaws
 pub mod TypeSetLemmas
 pub mod TypeSetRelations
 pub mod TypeWalk
-pub mod VersionLemmas
 pub mod RefusalLemmas
 pub mod RegistryLemmas
 pub mod TypeNumbers
+pub use Rattle.system_version.proofs.VersionLemmas

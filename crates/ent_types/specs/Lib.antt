@@ -4,9 +4,9 @@ pub mod PaddedNames
 pub mod TypeSets
 pub mod TypeWords
 pub mod TypeWordsBack
-pub mod Versions
 pub mod Refusals
 pub mod Registries
 pub mod Skips
 pub mod TypeLookups
 pub mod Types
+pub use Rattle.system_version.specs.Versions

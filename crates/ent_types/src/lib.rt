@@ -15,7 +15,6 @@ mod steps;
 mod type_info;
 mod type_set;
 mod value;
-mod version;
 
 pub use entity::{BUILT_IN_TYPES, Entity, TypeId};
 pub use kinds::{FieldKind, Kind, fit};
@@ -26,7 +25,7 @@ pub use registry::{Registry, RegistryFault};
 pub use sequence::Sequence;
 pub use skip::Skip;
 pub use steps::Steps;
+pub use system_version::SystemVersion;
 pub use type_info::{FieldInfo, TypeInfo};
 pub use type_set::{TypeSet, Types};
 pub use value::{Part, Parts, Value, Values};
-pub use version::SystemVersion;

@@ -38,7 +38,7 @@ pub const MOST_INDEXES: u32 = 4_194_304;
 pub const MOST_BLOCK_ROWS: u32 = 128;
 
 /// The greatest number of moments of a run. It is far below 2^31, so wrapped versions still compare as moments do.
-pub const MOST_MOMENTS: u32 = 26_200_001;
+pub const MOST_MOMENTS: u32 = system_version::MOST_MOMENTS;
 
 /// The greatest number of workers that run a phase.
 pub const MOST_WORKERS: u32 = 64;

@@ -6,7 +6,7 @@ use Rattle.std.specs.Bool.{Decides}
 use Rattle.std.specs.Int.{int_wrap, cast_signed}
 use Rattle.std.specs.Prelude.{int_lt, unsigned_abs}
 use Rattle.std.proofs.lemmas.Int.{int_rem_euclid_is, ints}
-use Rattle.ent_types.specs.Versions.{next_version, version_of, IsVersion, IsMoment, is_later}
+use Rattle.system_version.specs.Versions.{next_version, version_of, IsVersion, IsMoment, is_later}
 
 -- one version on
 next_in_range : (n : ℕ) → n < 4294967295 → next_version (1 + n) ≡ 1 + (n + 1) % 4294967295

@@ -1,8 +1,8 @@
 use Rattle.std.proofs.Common.{◌∙◌, ap, sym}
 use Rattle.std.proofs.lemmas.Bool.{ne_eqb, cond-false}
-use Rattle.ent_types.specs.Versions.{next_version}
-use Rattle.ent_types.proofs.VersionLemmas.{version_of-next}
-use Rattle.ent_types.proofs.version.SystemVersion.next.Goals as goal
+use Rattle.system_version.specs.Versions.{next_version}
+use Rattle.system_version.proofs.VersionLemmas.{version_of-next}
+use Rattle.system_version.proofs.version.SystemVersion.next.Goals as goal
 
 pub returns-then-self-eq4294967295-clause-moment : goal.returns-then-self-eq4294967295-clause-moment
 returns-then-self-eq4294967295-clause-moment c = λ first moment from_one is.

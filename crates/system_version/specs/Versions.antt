@@ -1,7 +1,7 @@
 -- system versions: moments count up without end, and a version is a moment kept in 32 bits
 use Rattle.std.specs.Prelude.{ℕ, zero, suc, ◌+◌, ◌^◌, ◌<◌, ◌≤◌, Bool, ◌||◌, ◌==◌, if◌then◌else◌, pos, ◌-ℤ◌, int_lt}
 use Rattle.std.specs.Int.{int_wrap, w32}
-use Rattle.ent_types.specs.declared.limits.TheConstants.{MOST_MOMENTS}
+use Rattle.system_version.specs.declared.version.TheConstants.{MOST_MOMENTS}
 
 -- one more, or 1 after the largest, so that no version is 0
 abbrev pub next_version : ℕ → ℕ

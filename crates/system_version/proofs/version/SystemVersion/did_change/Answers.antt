@@ -2,9 +2,9 @@ use Rattle.std.proofs.Common.{◌≡◌, ◌∙◌, ap, ap₂, sym, arith, pos, 
 use Rattle.std.specs.Prelude.{int_lt}
 use Rattle.std.proofs.lemmas.Bool.Decides.{Decides-at}
 use Rattle.std.proofs.lemmas.Int.{to_z-of_z}
-use Rattle.ent_types.specs.Versions.{is_later}
-use Rattle.ent_types.proofs.VersionLemmas.{is_later-difference, is_later-moments, version_of-some}
-use Rattle.ent_types.proofs.version.SystemVersion.did_change.Goals as goal
+use Rattle.system_version.specs.Versions.{is_later}
+use Rattle.system_version.proofs.VersionLemmas.{is_later-difference, is_later-moments, version_of-some}
+use Rattle.system_version.proofs.version.SystemVersion.did_change.Goals as goal
 
 answer : (c : goal.After-cast_signed) → int_lt (pos 0) (to_z w32 (of_z w32 c.cast_signed.result)) ≡ is_later c.args.self.0 c.args.required.0
 answer c =

@@ -1,6 +1,9 @@
 //! The system version, which stands for a moment in 32 bits.
 ghost use Rattle.std.specs.Prelude.{◌≡◌, ℕ, ◌+◌, ◌<◌, ◌≤◌, ◌↔◌, IsTrue};
-ghost use Rattle.ent_types.specs.Versions.{next_version, version_of, is_later, IsVersion, IsMoment};
+ghost use Rattle.system_version.specs.Versions.{next_version, version_of, is_later, IsVersion, IsMoment};
+
+/// The greatest number of moments of a run. It is far below 2^31, so wrapped versions still compare as moments do.
+pub const MOST_MOMENTS: u32 = 26_200_001;
 
 /// The version of a moment: it is raised before each system's update, and marks say at which version something
 /// was last taken for writing (Unity's behaviour). 0 is the version of no moment and stands for 'never'.

@@ -1,0 +1,6 @@
+//! The system version, which stands for a moment in 32 bits, with the laws of its comparison.
+#![tactic(auto)]
+
+mod version;
+
+pub use version::{MOST_MOMENTS, SystemVersion};
