@@ -4,9 +4,9 @@ use Rattle.std.specs.Prelude.{nat_lt}
 use Rattle.std.proofs.lemmas.Bool.Decides.{nat_tests}
 use Rattle.ent_types.specs.TypeSets.{has_type, with_type}
 use Rattle.ent_types.proofs.TypeSetLemmas.{has_type-with_type}
-use Rattle.scenario_check.specs.Found.{put_type}
-use Rattle.scenario_check.specs.Found.{with_types}
-use Rattle.scenario_check.proofs.UseLemmas.{found-tested}
+use Rattle.scenario_faults.specs.Found.{put_type}
+use Rattle.scenario_faults.specs.Found.{with_types}
+use Rattle.scenario_faults.proofs.UseLemmas.{found-tested}
 use Rattle.scenario_check.specs.Built.{is_built_in_tag, names_built_in}
 
 -- one of two, of each of two pairs

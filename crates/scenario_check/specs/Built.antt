@@ -9,7 +9,7 @@ use Rattle.scenario_record.specs.declared.record.Scenario.{Scenario}
 use Rattle.scenario_record.specs.declared.record.SpawnEntry.{SpawnEntry}
 use Rattle.scenario_record.specs.declared.record.SystemEntry.{SystemEntry}
 use Rattle.scenario_record.specs.Uses.{uses_of_assigns}
-use Rattle.scenario_check.specs.Found.{tested_types}
+use Rattle.scenario_faults.specs.Found.{tested_types}
 
 -- ---- types
 

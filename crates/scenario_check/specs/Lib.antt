@@ -1,7 +1,7 @@
-pub mod Found
-pub mod Touched
-pub mod Checks
 pub mod Planned
 pub mod Read
-pub mod Labels
 pub mod Built
+pub use Rattle.scenario_faults.specs.Found
+pub use Rattle.scenario_faults.specs.Touched
+pub use Rattle.scenario_faults.specs.Checks
+pub use Rattle.scenario_faults.specs.Labels

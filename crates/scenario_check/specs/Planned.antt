@@ -9,8 +9,8 @@ use Rattle.scenario_record.specs.declared.plan.Step.TheVariants.{Events, Play, R
 use Rattle.scenario_record.specs.declared.record.Scenario.{Scenario}
 use Rattle.scenario_record.specs.Faults.{bad}
 use Rattle.scenario_record.specs.Readings.{Reading, unless, whole_path}
-use Rattle.scenario_check.specs.Touched.{access_of}
-use Rattle.scenario_check.specs.Checks.{first_fault}
+use Rattle.scenario_faults.specs.Touched.{access_of}
+use Rattle.scenario_faults.specs.Checks.{first_fault}
 
 -- The steps of a frame, if no key places a system: all are children of Simulation, in declared order.
 abbrev pub steps_of : ℕ → List Step

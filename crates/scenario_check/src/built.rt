@@ -3,9 +3,9 @@ ghost use Rattle.std.specs.Prelude.{◌≡◌, map};
 ghost use Rattle.std.specs.List.{list_all};
 ghost use Rattle.scenario_check.specs.Built.{is_built_kind, are_built_types, is_built_in_tag, names_built_in, tested_by, is_built_spawn, is_built_system, is_built};
 
-use crate::uses::by_assigns;
 use ent_types::{BUILT_IN_TYPES, Kind, Registry, TypeId, TypeInfo, TypeSet};
 use expr_trees::PartExpr;
+use scenario_faults::uses::by_assigns;
 use scenario_record::{Scenario, SpawnEntry, SystemEntry};
 
 /// The number of built-in tags, `Disabled` and `Prefab`, which come before all other types.

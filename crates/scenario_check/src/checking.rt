@@ -3,17 +3,17 @@ ghost use Rattle.std.specs.Prelude.{◌≡◌, ◌++◌, map, IfOk};
 ghost use Rattle.std.specs.List.{range_with_len};
 ghost use Rattle.scenario_record.specs.declared.plan.Step.TheVariants.{Run};
 ghost use Rattle.scenario_record.specs.Readings.{Answers, Passes, unless};
-ghost use Rattle.scenario_check.specs.Checks.{first_fault};
-ghost use Rattle.scenario_check.specs.Touched.{access_of};
+ghost use Rattle.scenario_faults.specs.Checks.{first_fault};
+ghost use Rattle.scenario_faults.specs.Touched.{access_of};
 ghost use Rattle.scenario_check.specs.Planned.{steps_of, plan_of, planned, checked};
 ghost use Rattle.scenario_check.specs.Read.{IsRead};
 
-use crate::access::{access_of, lookups};
-use crate::events::events;
-use crate::names::{names, parents};
-use crate::siblings::siblings;
-use crate::spawns::spawns;
 use ent_types::{Memory, Point, Registry, Sequence};
+use scenario_faults::access::{access_of, lookups};
+use scenario_faults::events::events;
+use scenario_faults::names::{names, parents};
+use scenario_faults::siblings::siblings;
+use scenario_faults::spawns::spawns;
 use scenario_record::{
     Access, Cause, Plan, Scenario, ScenarioFault, Step, SystemEntry, bad, whole_fault,
 };

@@ -1,5 +1,5 @@
 use Rattle.std.proofs.Common.{◌≡◌, map, take}
-use Rattle.scenario_check.specs.Touched.{access_of}
+use Rattle.scenario_faults.specs.Touched.{access_of}
 use Rattle.scenario_check.proofs.checking.access_of_each.Given as goal
 
 -- the systems so far

@@ -1,8 +1,0 @@
-use Rattle.std.proofs.Common.{take}
-use Rattle.scenario_check.specs.Labels.{HasLabels}
-use Rattle.scenario_check.proofs.LabelLemmas.{past}
-use Rattle.scenario_check.proofs.events.labels_of.Given as goal
-
--- the loads so far
-abbrev pub invariant-loop-event : goal.invariant-loop-event
-invariant-loop-event l = HasLabels l.labels.keys (past (take l.event-index l.events))

@@ -1,0 +1,4 @@
+pub mod Found
+pub mod Touched
+pub mod Checks
+pub mod Labels
