@@ -7,6 +7,10 @@
 #[cfg(test)]
 mod examples;
 #[cfg(test)]
+mod examples_outside;
+#[cfg(test)]
+mod examples_types;
+#[cfg(test)]
 mod fields;
 #[cfg(test)]
 mod files;

@@ -9,6 +9,8 @@ mod claims;
 #[cfg(test)]
 mod entities;
 #[cfg(test)]
+mod examples_tables;
+#[cfg(test)]
 mod interned;
 #[cfg(test)]
 mod masks;

@@ -1,0 +1,64 @@
+//! Examples of sets and registries that are proved from the contracts alone, so that no body that differs here can meet
+//! its contract.
+use ent_types::{Kind, Memory, Registry, RegistryFault, Sequence, TypeId, TypeInfo, TypeSet};
+use std::alloc::Global;
+use std::test::Fail;
+
+/// The empty set is a subset of each set, and no other set is a subset of it.
+fn compares_sets() {
+    let narrow = TypeSet::empty();
+    let wide = narrow.with(TypeId(64));
+    let is_in = narrow.is_subset(&wide);
+    prove!(is_in);
+    let is_turned = wide.is_subset(&narrow);
+    prove!(!is_turned);
+}
+
+/// A tag with the name of another type of the registry.
+fn second_prefab(alloc: Global, registry: &Registry) -> TypeInfo {
+    TypeInfo {
+        name: registry.info(TypeId::PREFAB).name,
+        kind: Kind::Tag,
+        fields: Sequence::new(alloc),
+        enableable: false,
+    }
+}
+
+/// A name that is taken is the fault, though there is room for more types.
+#[tactic(auto, unfolding(ent_types::specs::Registries::built_in_types, ent_types::specs::Registries::type_named, ent_types::specs::Refusals::refusal, ent_types::specs::Types::is_lawful_type))]
+fn refuses_a_taken_name(alloc: Global) -> Result<(), Memory> {
+    let mut registry = Registry::new(alloc)?;
+    let info = second_prefab(alloc, &registry);
+    let is_due = match registry.add(info) {
+        Ok(_) => false,
+        Err(fault) => fault == RegistryFault::Duplicate,
+    };
+    prove!(is_due);
+    Ok(())
+}
+
+/// A type gets the number of the types before it.
+fn gives_the_next_number(registry: &mut Registry, info: TypeInfo) -> bool {
+    let count = registry.len();
+    if !info.is_lawful() {
+        return false;
+    }
+    match registry.add(info) {
+        Ok(ty) => {
+            let is_next = usize::from(ty.0) == count;
+            prove!(is_next);
+            true
+        }
+        Err(_) => false,
+    }
+}
+
+#[test]
+fn what_is_proved_of_types_also_runs(rt: HostRuntime) -> Result<(), Fail> {
+    compares_sets();
+    refuses_a_taken_name(rt.alloc())?;
+    let mut registry = Registry::new(rt.alloc())?;
+    let info = crate::types::type_of(rt.alloc(), b"Health", crate::types::plain(1))?;
+    assert!(rt; gives_the_next_number(&mut registry, info));
+    Ok(())
+}
