@@ -1,7 +1,11 @@
 //! Examples of sets and registries that are proved from the contracts alone, so that no body that differs here can meet
 //! its contract.
-use ent_types::{Kind, Memory, Registry, RegistryFault, Sequence, TypeId, TypeInfo, TypeSet};
-use std::alloc::Global;
+ghost use Rattle.std.specs.Prelude.{◌≡◌, Some, IsTrue};
+ghost use Rattle.ent_types.specs.Types.{is_lawful_type};
+ghost use Rattle.ent_types.specs.Refusals.{refusal};
+ghost use Rattle.ent_types.specs.declared.registry.RegistryFault.TheVariants.{Duplicate};
+
+use ent_types::{Registry, RegistryFault, TypeId, TypeInfo, TypeSet};
 use std::test::Fail;
 
 /// The empty set is a subset of each set, and no other set is a subset of it.
@@ -14,27 +18,16 @@ fn compares_sets() {
     prove!(!is_turned);
 }
 
-/// A tag with the name of another type of the registry.
-fn second_prefab(alloc: Global, registry: &Registry) -> TypeInfo {
-    TypeInfo {
-        name: registry.info(TypeId::PREFAB).name,
-        kind: Kind::Tag,
-        fields: Sequence::new(alloc),
-        enableable: false,
-    }
-}
-
 /// A name that is taken is the fault, though there is room for more types.
-#[tactic(auto, unfolding(ent_types::specs::Registries::built_in_types, ent_types::specs::Registries::type_named, ent_types::specs::Refusals::refusal, ent_types::specs::Types::is_lawful_type))]
-fn refuses_a_taken_name(alloc: Global) -> Result<(), Memory> {
-    let mut registry = Registry::new(alloc)?;
-    let info = second_prefab(alloc, &registry);
+pub fn refuses_a_taken_name(registry: &mut Registry, info: TypeInfo)
+    requires lawful { IsTrue (is_lawful_type info) }
+    requires taken { refusal registry.old info ≡ Some Duplicate }
+{
     let is_due = match registry.add(info) {
         Ok(_) => false,
         Err(fault) => fault == RegistryFault::Duplicate,
     };
     prove!(is_due);
-    Ok(())
 }
 
 /// A type gets the number of the types before it.
@@ -56,7 +49,6 @@ fn gives_the_next_number(registry: &mut Registry, info: TypeInfo) -> bool {
 #[test]
 fn what_is_proved_of_types_also_runs(rt: HostRuntime) -> Result<(), Fail> {
     compares_sets();
-    refuses_a_taken_name(rt.alloc())?;
     let mut registry = Registry::new(rt.alloc())?;
     let info = crate::types::type_of(rt.alloc(), b"Health", crate::types::plain(1))?;
     assert!(rt; gives_the_next_number(&mut registry, info));

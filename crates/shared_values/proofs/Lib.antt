@@ -1,4 +1,3 @@
 pub mod Changes
 pub mod FreeIds
 pub mod FoundIds
-pub mod OneEach

@@ -104,11 +104,29 @@ impl SharedTable {
         ensures one_each { AreOneEach self.new }
         ensures err { OnErr result (self.new ≡ self.old) }
     {
+        let id = self.id_for(ty, values);
+        self.has_one_each();
+        id
+    }
+
+    /// Returns the id of these values of this type, held once more.
+    fn id_for(&mut self, ty: TypeId, values: &Values) -> Result<SharedId, Memory>
+        ensures answer { IfOk result (IsIdFor self.old ty.0 values.now) }
+        ensures held { IfOk result (λ id. ChangesTo self.old self.new id (held_once_more self.old id ty.0 values.now)) }
+        ensures err { OnErr result (self.new ≡ self.old) }
+    {
         let key = Key::of(*self.slots.allocator(), ty, values)?;
         match self.ids.get(&key).copied() {
             Some(id) => Ok(self.hold(id)),
             None => self.give(key),
         }
+    }
+
+    /// Says what the invariant has: a key finds one id.
+    fn has_one_each(&self)
+        ensures { AreOneEach self.now }
+    {
+        let _ = &self.slots;
     }
 
     /// Holds an id once more.
@@ -179,7 +197,7 @@ impl SharedTable {
         ensures same { IsTrue result ↔ ((type_of self.now a ≡ type_of self.now b) × (values_of self.now a ≡ values_of self.now b)) }
         ensures one_each { AreOneEach self.now }
     {
-        let _ = &self.slots;
+        self.has_one_each();
         a == b
     }
 
@@ -189,6 +207,7 @@ impl SharedTable {
         ensures value { result.now ≡ values_of self.now id }
         ensures one_each { AreOneEach self.now }
     {
+        self.has_one_each();
         &self.slots[id.0].key.values
     }
 }
