@@ -48,12 +48,6 @@ told_written None wanted further value text old new is due whole = tt
 told_written (Some files) wanted further value text old new is due whole =
     subst (λ w. IsWritten (and_then further w) old new) (sym is) (subst (λ w. IsWritten w old new) (sym due) whole)
 
--- a refusal that the last step gives
-pub told_refused : {A : Type 0} (told : Option Files) (wanted : Files → Result A Refusal) (further : A → Result (List ℕ) Refusal) (value : A) (refusal : Refusal) (old new : Option (List ℕ))
-    → IfSome told (λ files. wanted files ≡ Ok value) → further value ≡ Err refusal → new ≡ old → IfSome told (λ files. (and_then further (wanted files) ≡ Err refusal) × (new ≡ old))
-told_refused None wanted further value refusal old new is due same = tt
-told_refused (Some files) wanted further value refusal old new is due same = (subst (λ w. and_then further w ≡ Err refusal) (sym is) due, same)
-
 -- the text of a run, by its form
 
 pub unbuilt_text : (c : Checked) (b : Bool) → b ≡ is_built c.scenario → b ≡ false → run_text c ≡ Err NotBuilt

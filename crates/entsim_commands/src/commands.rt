@@ -54,6 +54,16 @@ pub fn run_file<S: Store, W: Sink>(
     ensures files { S.files store.new ≡ S.files store.old }
 {
     let checked = read_checked(alloc, name, store)?;
+    run_checked(alloc, &checked, out)
+}
+
+/// Runs a scenario that passes its checks, and writes the world after its frames.
+fn run_checked<W: Sink>(alloc: Global, checked: &Checked, out: &mut W) -> Result<(), Stop>
+    requires runnable { is_built checked.now.scenario ≡ true → IsRunnable checked.now.scenario }
+    requires steps { length checked.now.plan.steps ≤ MOST_SYSTEMS + 6 }
+    ensures gives { Gives (run_text checked.now) result (W.text out.old) (W.text out.new) }
+    ensures causes { StopCauses result 0 0 (W.faults out.old) (W.faults out.new) }
+{
     let scenario = &checked.scenario;
     if !is_built(scenario) {
         return Err(Stop::Refused(Refusal::NotBuilt));
