@@ -1,5 +1,6 @@
 //! The commands over a scenario, from the name of its file to the text.
-ghost use Rattle.std.specs.Prelude.{◌≡◌, ◌+◌, ◌≤◌, length, true, IfOk, IfSome};
+ghost use Rattle.std.specs.Prelude.{◌≡◌, ◌+◌, ◌≤◌, length, true, IfOk, IfSome, Ok};
+ghost use Rattle.entsim_commands.specs.CheckLine.{ok_line};
 ghost use Rattle.scenario_check.specs.Built.{is_built};
 ghost use Rattle.scenario_record.specs.Runnable.{IsRunnable};
 ghost use Rattle.entsim_commands.specs.Outcome.{and_then, check_text, run_text, scenario_in};
@@ -85,7 +86,15 @@ pub fn check_file<S: Store, W: Sink>(
     ensures files { S.files store.new ≡ S.files store.old }
 {
     let checked = read_checked(alloc, name, store)?;
-    let line = ok_line(alloc, &checked.scenario)?;
+    write_check(alloc, &checked.scenario, out)
+}
+
+/// Writes the line of a scenario that passes its checks.
+fn write_check<W: Sink>(alloc: Global, scenario: &Scenario, out: &mut W) -> Result<(), Stop>
+    ensures gives { Gives (Ok (ok_line scenario.now)) result (W.text out.old) (W.text out.new) }
+    ensures causes { StopCauses result 0 0 (W.faults out.old) (W.faults out.new) }
+{
+    let line = ok_line(alloc, scenario)?;
     write_whole(out, &line)?;
     Ok(())
 }
