@@ -4,7 +4,6 @@ use Rattle.std.proofs.lemmas.List.{drop_more, drop_all}
 use Rattle.std.specs.Prelude.{is_some}
 use Rattle.expr_tokens.specs.Tokens.{Token, word, number, sign, bad}
 use Rattle.expr_tokens.specs.declared.sign.Sign.{Sign}
-use Rattle.expr_trees.specs.declared.tree.BinaryOp.{BinaryOp}
 use Rattle.expr_grammar.specs.declared.symbol.Symbol.{Symbol}
 use Rattle.expr_grammar.specs.declared.symbol.Symbol.TheVariants as wait
 use Rattle.expr_grammar.specs.declared.symbol.Action.{Action}
@@ -14,10 +13,9 @@ use Rattle.expr_grammar.specs.Machine.{State, tails, take, take_operator, may_en
 use Rattle.expr_grammar.specs.Scopes.{Scope}
 use Rattle.expr_steps.specs.declared.expected.Expected.{Expected}
 use Rattle.expr_steps.specs.declared.expected.Expected.TheVariants as expect
-use Rattle.expr_steps.specs.declared.moves.Move.{Move}
 use Rattle.expr_steps.specs.declared.moves.Accepted.{Accepted}
 use Rattle.expr_steps.specs.declared.moves.Accepted.TheVariants.{Operand, Other}
-use Rattle.expr_steps.specs.Expecting.{acted, action_at, before, done, ends, expected_of, Follows, Agrees, is_passed, left, left_of, move_of, operator_seen, reduced, reduced_first, rest_of, symbols, tails_from, take_tails, takes}
+use Rattle.expr_steps.specs.Expecting.{acted, action_at, before, done, ends, expected_of, Follows, Agrees, is_passed, left_of, move_of, operator_seen, reduced, reduced_first, rest_of, symbols, tails_from, take_tails, takes}
 use Rattle.expr_steps.proofs.Tails.{first_some, no_levels, one_more_level}
 
 -- ---- an expected thing is passed as its symbols are

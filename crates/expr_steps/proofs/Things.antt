@@ -1,5 +1,5 @@
 -- What a move leaves, as expected things and as symbols.
-use Rattle.std.proofs.Common.{ℕ, zero, suc, ◌≡◌, List, [], ◌∷◌, ◌++◌, Bool, true, false, cond, refl, ap, arith}
+use Rattle.std.proofs.Common.{ℕ, zero, suc, ◌≡◌, List, [], ◌∷◌, ◌++◌, true, false, cond, refl, ap, arith}
 use Rattle.std.proofs.lemmas.Bool.{ne_eqb}
 use Rattle.expr_grammar.specs.declared.words.Call.{Call}
 use Rattle.expr_grammar.specs.declared.words.Call.TheVariants as calls

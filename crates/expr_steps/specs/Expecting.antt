@@ -195,6 +195,9 @@ things_behind verbs.Instantiate = expect.New ∷ expect.From ∷ expect.Ref true
 abbrev pub value_thing : Bool → Bool → Expected
 value_thing made is_ref = if is_ref then expect.Ref made else expect.Level 5 0
 
+abbrev pub values_things : TypeId → Bool → List Expected
+values_things ty fields = if fields then expect.Values ty ∷ [] else []
+
 abbrev pub things_of : Move → List Expected
 things_of (moves.One e) = e ∷ []
 things_of (moves.Group depth) = expect.Level 5 depth ∷ expect.Close ∷ []
@@ -204,10 +207,8 @@ things_of (moves.Arguments call depth) = things_in call depth
 things_of (moves.Owner ty role) = expect.Dot ∷ expect.Field ty role ∷ []
 things_of (moves.Assigned ty i is_ref) = expect.Becomes ∷ value_thing false is_ref ∷ []
 things_of (moves.Behind verb) = things_behind verb
-things_of (moves.Part ty fields) = if fields then expect.Values ty ∷ [] else []
-things_of (moves.Joined ty fields used) =
-    if fields then expect.Values ty ∷ expect.Reduce reduction.Join ∷ expect.MoreParts used ∷ []
-    else expect.Reduce reduction.Join ∷ expect.MoreParts used ∷ []
+things_of (moves.Part ty fields) = values_things ty fields
+things_of (moves.Joined ty fields used) = values_things ty fields ++ expect.Reduce reduction.Join ∷ expect.MoreParts used ∷ []
 things_of (moves.Value ty is_ref next) = value_thing true is_ref ∷ expect.Reduce reduction.Value ∷ expect.MoreValues ty next ∷ []
 things_of _ = []
 

@@ -1,12 +1,12 @@
 //! What is expected, and built at once, after a token is accepted.
 ghost use Rattle.std.specs.Prelude.{◌≡◌, ◌∷◌, ◌++◌, false, OnOk};
-ghost use Rattle.expr_steps.specs.Expecting.{action_at, done, expected_of, move_of, some_operators, symbols, things_behind, things_in, things_of};
+ghost use Rattle.expr_steps.specs.Expecting.{action_at, done, expected_of, move_of, some_operators, symbols, things_behind, things_in, things_of, values_things};
 
-use crate::expected::{Expected, Reduction, part_use, turn_use, whole};
+use crate::expected::{Expected, Reduction, part_use, turn_use, value_by, whole};
 use crate::moves::{Accepted, Move};
 use crate::reduce::push_int;
 use crate::stack::Stack;
-use ent_types::{Memory, Sequence};
+use ent_types::{Memory, Sequence, TypeId};
 use expr_grammar::{Built, Call, FieldUse, TypeUse, Verb};
 use expr_trees::{Expr, PartExpr};
 use sqlite_items::Boxed;
@@ -107,6 +107,16 @@ fn push_operators(
     })
 }
 
+/// Expects the values of a part of this type, if it has fields.
+fn push_values(expected: &mut Stack<Expected>, ty: TypeId, has_fields: bool) -> Result<(), Memory>
+    ensures { OnOk result (expected.new ≡ values_things ty has_fields ++ expected.old) }
+{
+    if !has_fields {
+        return Ok(());
+    }
+    expected.push(Expected::Values(ty))
+}
+
 /// Builds what a move builds at once.
 fn build(alloc: Global, left: &Move, operands: &mut Stack<Built>) -> Result<(), Memory>
     ensures { OnOk result (operands.new ≡ done (action_at left.now) operands.old) }
@@ -161,41 +171,23 @@ fn push_rest(expected: &mut Stack<Expected>, left: &Move) -> Result<(), Memory>
             expected.push_two(Expected::Dot, Expected::Field { ty, role })
         }
         Move::Assigned { is_ref, .. } => {
-            if is_ref {
-                expected.push_two(Expected::Becomes, Expected::Ref { made: false })
-            } else {
-                expected.push_two(Expected::Becomes, whole(0))
-            }
+            expected.push_two(Expected::Becomes, value_by(false, is_ref))
         }
         Move::Behind(verb) => push_behind(expected, verb),
-        Move::Part { ty, has_fields } => {
-            if has_fields {
-                expected.push(Expected::Values(ty))
-            } else {
-                Ok(())
-            }
-        }
+        Move::Part { ty, has_fields } => push_values(expected, ty, has_fields),
         Move::Joined {
             ty,
             has_fields,
             used,
         } => {
             let join = Expected::Reduce(Reduction::Join);
-            let more = Expected::MoreParts(used);
-            if has_fields {
-                expected.push_three(Expected::Values(ty), join, more)
-            } else {
-                expected.push_two(join, more)
-            }
+            expected.push_two(join, Expected::MoreParts(used))?;
+            push_values(expected, ty, has_fields)
         }
         Move::Value { ty, is_ref, next } => {
             let join = Expected::Reduce(Reduction::Value);
             let more = Expected::MoreValues { ty, at: next };
-            if is_ref {
-                expected.push_three(Expected::Ref { made: true }, join, more)
-            } else {
-                expected.push_three(whole(0), join, more)
-            }
+            expected.push_three(value_by(true, is_ref), join, more)
         }
         _ => Ok(()),
     }

@@ -1,6 +1,7 @@
 //! What the parser expects.
 ghost use Rattle.std.specs.Prelude.{◌≡◌};
 ghost use Rattle.expr_grammar.specs.Fitting.{part_use, turn_use};
+ghost use Rattle.expr_steps.specs.Expecting.{value_thing};
 
 use ent_types::{TypeId, TypeSet};
 use expr_grammar::{Call, Change, FieldUse, Turn, TypeUse};
@@ -134,6 +135,17 @@ pub fn whole(depth: u8) -> Expected
     Expected::Level {
         level: WHOLE,
         depth,
+    }
+}
+
+/// Returns a value by its field's kind; `made` is true if a made name fits.
+pub fn value_by(made: bool, is_ref: bool) -> Expected
+    ensures { result ≡ value_thing made is_ref }
+{
+    if is_ref {
+        Expected::Ref { made }
+    } else {
+        whole(0)
     }
 }
 

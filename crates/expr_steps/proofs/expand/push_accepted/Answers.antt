@@ -1,4 +1,4 @@
-use Rattle.std.proofs.Common.{◌≡◌, ◌++◌, ap, sym, ◌∙◌, append_assoc}
+use Rattle.std.proofs.Common.{◌++◌, ap, sym, ◌∙◌, append_assoc}
 use Rattle.expr_grammar.specs.Machine.{tails}
 use Rattle.expr_steps.specs.Expecting.{expected_of, rest_of, symbols}
 use Rattle.expr_steps.proofs.Tails.{tails_are}

@@ -1,4 +1,4 @@
-use Rattle.std.proofs.Common.{◌≡◌, sym, arith}
+use Rattle.std.proofs.Common.{sym, arith}
 use Rattle.expr_tokens.specs.Seen.{token_seen}
 use Rattle.expr_steps.proofs.Passing.{passes, stops_here, found_here, none_left}
 use Rattle.expr_steps.proofs.step.find.Goals as goal

@@ -1,4 +1,4 @@
-use Rattle.std.proofs.Common.{◌≡◌, sym, arith}
+use Rattle.std.proofs.Common.{sym, arith}
 use Rattle.expr_steps.proofs.Passing.{ends_more, no_end, all_end}
 use Rattle.expr_steps.proofs.step.may_finish.Goals as goal
 

@@ -1,4 +1,4 @@
-use Rattle.std.proofs.Common.{◌≡◌, ◌∙◌, refl, sym, ap, arith}
+use Rattle.std.proofs.Common.{sym, arith}
 use Rattle.expr_tokens.specs.Seen.{token_seen}
 use Rattle.expr_steps.proofs.Passing.{passes_by}
 use Rattle.expr_steps.proofs.step.passed.Goals as goal
