@@ -24,39 +24,39 @@ pub fn print_expr(alloc: Global, e: &Expr, registry: &Registry) -> Result<String
     // The types of a registry are lawful.
     let _ = registry.types();
     let mut text = String::new(alloc);
-    push_expr(&mut text, registry, "", e)?;
+    push_expr(&mut text, registry, e)?;
     Ok(text)
 }
 
-/// Appends the text before an expression, and the expression.
-fn push_expr(
-    text: &mut String,
-    registry: &Registry,
-    before: &str,
-    e: &Expr,
-) -> Result<(), AllocError>
+/// Appends an expression.
+fn push_expr(text: &mut String, registry: &Registry, e: &Expr) -> Result<(), AllocError>
     requires { is_printable registry.now e.now ≡ true }
-    ensures text { OnOk result (string_bytes text.new ≡ string_bytes text.old ++ (before.now ++ expr_text registry.now e.now)) }
+    ensures text { OnOk result (string_bytes text.new ≡ string_bytes text.old ++ expr_text registry.now e.now) }
     ensures spelled { OnOk result (is_spelled registry.now e.now ≡ true) }
 {
-    text.push_str(before)?;
     match e {
         Expr::Number(number) => push_number(text, *number),
         Expr::Variable(variable) => text.push_str(variable_word(*variable)),
         Expr::Own { ty, field } => push_field(text, registry, *ty, *field),
         Expr::Unary(op, a) => {
-            push_expr(text, registry, sign_opening(*op), a.get())?;
+            text.push_str(sign_opening(*op))?;
+            push_expr(text, registry, a.get())?;
             text.push_str(")")
         }
         Expr::Binary(op, a, b) => {
-            push_expr(text, registry, opening(*op), a.get())?;
-            push_expr(text, registry, between(*op), b.get())?;
+            text.push_str(opening(*op))?;
+            push_expr(text, registry, a.get())?;
+            text.push_str(between(*op))?;
+            push_expr(text, registry, b.get())?;
             text.push_str(")")
         }
         Expr::Pick(c, a, b) => {
-            push_expr(text, registry, "pick(", c.get())?;
-            push_expr(text, registry, ", ", a.get())?;
-            push_expr(text, registry, ", ", b.get())?;
+            text.push_str("pick(")?;
+            push_expr(text, registry, c.get())?;
+            text.push_str(", ")?;
+            push_expr(text, registry, a.get())?;
+            text.push_str(", ")?;
+            push_expr(text, registry, b.get())?;
             text.push_str(")")
         }
         Expr::Get { from, ty, field } => push_get(text, registry, from, *ty, *field),

@@ -128,7 +128,7 @@ abbrev pub reduced : Expected → List Built → List Built
 reduced (expect.Operators level count depth) bs = bs
 reduced e bs = ended (symbol_of e) bs
 
--- `true` if an expected thing ends before a token by its kind alone: an operation that is done, or operators of other levels
+-- `true` if an expected thing ends before a token by its kind alone: a reduction, or operators of other levels
 abbrev pub is_passed : Expected → Token → Bool
 is_passed (expect.Reduce r) t = true
 is_passed (expect.Operators level count depth) t = not (is_some (take_tails count level depth (operator_seen t)))

@@ -439,8 +439,8 @@ fn rest<N: Names>(names: &N, limit: u8, expected: &Expected, token: Token<'_>) -
     }
 }
 
-/// `true` if the expected thing ends before the token, as its kind alone shows. An operator passes several such things, so
-/// this test is cheaper than `accept`.
+/// `true` if the expected thing ends before the token, as its kind alone shows. An operator passes several such things.
+/// This test is much cheaper than `accept`, which builds what the token leaves.
 pub(crate) fn is_passed(expected: &Expected, token: Token<'_>) -> bool
     ensures { result ≡ is_passed expected.now (token_seen token.entry) }
 {

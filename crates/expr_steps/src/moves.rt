@@ -35,13 +35,13 @@ pub enum Move {
     Group {
         depth: u8,
     },
-    /// An operand at this depth, over which the sign is put.
+    /// An operand at this depth is expected. The sign is put over it.
     Signed {
         op: UnaryOp,
         depth: u8,
     },
-    /// An operand below the operator's level, over which and the operand before it the operator is put, and then
-    /// perhaps operators of `count` levels from `from` on.
+    /// An operand below the operator's level is expected. The operator is put over it and the operand before it. Then
+    /// operators of `count` levels from `from` on may follow.
     Operator {
         op: BinaryOp,
         level: u8,
@@ -67,7 +67,7 @@ pub enum Move {
     },
     /// What follows the word of a command.
     Behind(Verb),
-    /// A part of this type is an operand; its values are expected, if it has fields.
+    /// A part of this type is an operand. Its values are expected if it has fields.
     Part {
         ty: TypeId,
         has_fields: bool,

@@ -21,7 +21,7 @@ use std::alloc::Global;
 /// Where a token is accepted.
 #[derive(Clone, Copy)]
 pub struct Place {
-    /// How many expected things end before.
+    /// The number of expected things that end before the token.
     pub above: usize,
     /// How the token is accepted there.
     pub accepted: Accepted,
