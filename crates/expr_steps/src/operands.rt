@@ -9,14 +9,22 @@ use expr_grammar::Built;
 use expr_trees::{CommandText, Expr, PartExpr, RefExpr, ValueExpr};
 use sqlite_items::Boxed;
 
+/// Drops an operand of another kind, and all operands below it. The proofs of its callers needn't follow how each kind is
+/// dropped, which is most of their length.
+fn refuse(_other: Built, operands: &mut Stack<Built>)
+    ensures { operands.new ≡ [] }
+{
+    operands.clear();
+}
+
 /// Pops an expression. If the top isn't one, clears the stack and returns `None`.
 pub fn pop_int(operands: &mut Stack<Built>) -> Option<Boxed<Expr>>
     ensures { MatchOption result ((top_int operands.old ≡ None) × (operands.new ≡ [])) (λ e. operands.old ≡ Built.Int e ∷ operands.new) }
 {
     match operands.pop() {
         Some(Built::Int(value)) => Some(value),
-        Some(_) => {
-            operands.clear();
+        Some(other) => {
+            refuse(other, operands);
             None
         }
         None => None,
@@ -29,8 +37,8 @@ pub fn pop_ref(operands: &mut Stack<Built>) -> Option<RefExpr>
 {
     match operands.pop() {
         Some(Built::Ref(found)) => Some(found),
-        Some(_) => {
-            operands.clear();
+        Some(other) => {
+            refuse(other, operands);
             None
         }
         None => None,
@@ -43,8 +51,8 @@ pub fn pop_type(operands: &mut Stack<Built>) -> Option<TypeId>
 {
     match operands.pop() {
         Some(Built::Type(ty)) => Some(ty),
-        Some(_) => {
-            operands.clear();
+        Some(other) => {
+            refuse(other, operands);
             None
         }
         None => None,
@@ -57,8 +65,8 @@ pub fn pop_field(operands: &mut Stack<Built>) -> Option<(TypeId, u8)>
 {
     match operands.pop() {
         Some(Built::Field { ty, field }) => Some((ty, field)),
-        Some(_) => {
-            operands.clear();
+        Some(other) => {
+            refuse(other, operands);
             None
         }
         None => None,
@@ -71,8 +79,8 @@ pub fn pop_name(operands: &mut Stack<Built>) -> Option<Name>
 {
     match operands.pop() {
         Some(Built::Name(name)) => Some(name.into_inner()),
-        Some(_) => {
-            operands.clear();
+        Some(other) => {
+            refuse(other, operands);
             None
         }
         None => None,
@@ -85,8 +93,8 @@ pub fn pop_part(operands: &mut Stack<Built>) -> Option<PartExpr>
 {
     match operands.pop() {
         Some(Built::Part(part)) => Some(part),
-        Some(_) => {
-            operands.clear();
+        Some(other) => {
+            refuse(other, operands);
             None
         }
         None => None,
@@ -99,8 +107,8 @@ pub fn pop_parts(operands: &mut Stack<Built>) -> Option<Sequence<PartExpr>>
 {
     match operands.pop() {
         Some(Built::Parts(parts)) => Some(parts),
-        Some(_) => {
-            operands.clear();
+        Some(other) => {
+            refuse(other, operands);
             None
         }
         None => None,
@@ -114,8 +122,8 @@ pub fn pop_value(operands: &mut Stack<Built>) -> Option<ValueExpr>
     match operands.pop() {
         Some(Built::Int(value)) => Some(ValueExpr::Int(value.into_inner())),
         Some(Built::Ref(found)) => Some(ValueExpr::Ref(found)),
-        Some(_) => {
-            operands.clear();
+        Some(other) => {
+            refuse(other, operands);
             None
         }
         None => None,
@@ -128,8 +136,8 @@ pub fn pop_command(operands: &mut Stack<Built>) -> Option<CommandText>
 {
     match operands.pop() {
         Some(Built::Command(command)) => Some(command.into_inner()),
-        Some(_) => {
-            operands.clear();
+        Some(other) => {
+            refuse(other, operands);
             None
         }
         None => None,
