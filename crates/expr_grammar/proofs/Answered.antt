@@ -1,4 +1,4 @@
--- What a reader answers, from what the machine does.
+-- What a reader returns, from what the machine does.
 use Rattle.std.proofs.Common.{ℕ, ◌≡◌, List, [], ◌∷◌, map, length, false, sym, ap, ◌∙◌, subst}
 use Rattle.expr_tokens.specs.Tokens.{Token, Placed}
 use Rattle.expr_grammar.specs.declared.fault.ExprFault.{ExprFault}
@@ -22,7 +22,7 @@ use Rattle.expr_grammar.specs.Scopes.{Scope, IsLawful}
 use Rattle.expr_grammar.proofs.Starts.{expr_fault, ref_fault, assign_fault, switch_fault, expr_only, ref_only, assign_only, switch_only}
 
 module _ {Tree Meaning : Type 0} (texts : Texts Tree Meaning) where
-  -- neither a long text nor want of memory is a fault at a token
+  -- TooLong and Memory are no faults at a token
   not_too_long : (front : List Token) (rest : List Placed) (end at : ℕ) → IsStuck texts 64 front rest end TooLong at → ⊥
   not_too_long front [] end at k = let e : TooLong ≡ Unexpected = k.1 in cc
   not_too_long front (p ∷ rest) end at k = k.1

@@ -29,7 +29,7 @@ module _ {Tree Meaning : Type 0} (texts : Texts Tree Meaning) (tree : List Built
     by (Ok ws) k = meant ws k
     by (Err f) k = refused f k.0
 
--- no answer is want of memory
+-- no result is that memory ran out
 pub no_want : {A : Type 0} (tree : List Built → A) (s : Scope) (waits : List Symbol) (text : List ℕ) → IfErr (made_by tree (answer s waits text)) (λ f. f.cause ≡ Memory → ⊥)
 no_want {A = A} tree s waits text = by (answer s waits text) (decides s waits text) where
   by : (r : Result (List Built) ExprFault) → Decides s waits text r → IfErr (made_by tree r) (λ f. f.cause ≡ Memory → ⊥)

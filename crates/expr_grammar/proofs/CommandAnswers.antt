@@ -1,4 +1,4 @@
--- What the reader of commands tells is what is answered, and that is by the grammar.
+-- The reader of commands returns the result of the definitions, which follows from the grammar.
 use Rattle.std.proofs.Common.{ℕ, ◌≡◌, List, [], ◌∷◌, Ok, Err, sym, ap, ◌∙◌}
 use Rattle.std.specs.Prelude.{IfErr}
 use Rattle.expr_grammar.specs.declared.fault.ExprFault.{ExprFault}

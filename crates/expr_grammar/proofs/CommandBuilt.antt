@@ -95,7 +95,7 @@ module _ (s : Scope) (lawful : IsLawful s) (serves : ServesCommands s) (limit : 
       ∙ value_joins k v ty [] (wait.MoreValues ty 1 ∷ below) bs (spell_more_values vs (sign Close ∷ us)) fits.0 (more_stops vs us)
       ∙ more_values_built vs ks ty 1 (meaning_value v ∷ []) below bs us (drop_next 0 (s.refs ty) k ks e) fits.1
 
-  -- behind the type of a part
+  -- after the type of a part
   pub part_built : (p : Part) (below : List Symbol) (bs : List Built) (us : List Token) → FitsValues s limit (s.refs p.ty) p.values
       → run s limit (part_places s p.ty ++ below) bs (spell_values p.values us) ≡ run s limit below (built.Part (meaning_part p) ∷ bs) us
   part_built p below bs us fits =

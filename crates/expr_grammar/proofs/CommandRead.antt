@@ -99,7 +99,7 @@ module _ (s : Scope) (limit : ℕ) where
       let r = read_level s limit 5 0 below bs ts ws h in
       record { tree = int r.tree; fits = r.fits; rest = r.rest; tokens = r.tokens; shorter = r.shorter; built = r.built; goes_on = r.goes_on }
 
-  -- values that were read, and what goes on behind them
+  -- values that were read, and what follows them
   record ReadValues (kinds : List Bool) (spelled : List Value → List Token → List Token) (below : List Symbol) (ts : List Token) (ws : List Built) : Type 0 where
     values : List Value
     fits : FitsValues s limit kinds values

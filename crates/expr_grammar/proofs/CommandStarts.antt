@@ -1,4 +1,4 @@
--- The commands that the machine reads, and what a reader of them answers.
+-- The commands that the machine reads, and what a reader of them returns.
 use Rattle.std.proofs.Common.{ℕ, ◌≡◌, List, [], ◌∷◌, ◌++◌, ◌↔◌, map, Some, refl, sym, ap, ◌∙◌, subst}
 use Rattle.expr_tokens.specs.Tokens.{Token, Placed}
 use Rattle.expr_grammar.specs.declared.fault.ExprFault.{ExprFault}

@@ -25,7 +25,7 @@ more_stops (v ∷ vs) us level = refl
 some_same : {A : Type 0} (x y : A) → Some x ≡ Some y → x ≡ y
 some_same x y e = cc
 
--- the word of a command tells the command
+-- the word of a command determines the command
 change_known : (c : Change) → verb_of (change_word c) ≡ Some (verbs.Change c)
 change_known changes.Add = refl
 change_known changes.Set = refl

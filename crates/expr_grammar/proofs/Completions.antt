@@ -32,7 +32,7 @@ use Rattle.expr_grammar.proofs.Runs.{run_take, run_end, run_do, stops}
 use Rattle.expr_grammar.proofs.Takes.{take_close, take_comma, take_dot_sign, take_becomes, take_dot, take_arguments, take_field, take_type_field, take_ref_dot, take_colon, take_version, named_leaves}
 use Rattle.expr_grammar.proofs.Complete.{level_split, complete, complete_ref, stop_tail, end_plain, type_alone}
 
--- what stands next below can't be taken for more of an expression or of a reference
+-- the next symbol below can't be taken for more of an expression or of a reference
 abbrev pub soft : List Symbol → Bool
 soft [] = true
 soft (wait.Close ∷ below) = true
@@ -72,7 +72,7 @@ module _ (s : Scope) (lawful : IsLawful s) (limit : ℕ) where
   Ready (wait.Values ty) = (k : Bool) × (kind_at (s.refs ty) 0 ≡ Some k)
   Ready symbol = Unit {0}
 
-  -- what has to stand below it
+  -- what has to be below it
   abbrev pub Needs : Symbol → List Symbol → Type 0
   Needs (wait.Level level d) below = soft below ≡ true
   Needs (wait.Tail level d) below = soft below ≡ true
@@ -174,7 +174,7 @@ module _ (s : Scope) (lawful : IsLawful s) (limit : ℕ) where
   at_value made true below n c = at_ref made below n c
   at_value made false below n c = at_level 5 0 below n c
 
-  -- behind a field
+  -- after a field
   at_behind : (role : FieldUse) (ty : TypeId) (i : ℕ) (below : List Symbol) → soft below ≡ true → Completion below → Completion (behind_field s role ty i ++ below)
   at_behind NumberField ty i below n c = at_do _ below c
   at_behind EntityField ty i below n c = at_do _ below c

@@ -71,7 +71,7 @@ module _ {Tree Meaning : Type 0} (texts : Texts Tree Meaning) (s : Scope) (lawfu
       let none = one_more s l front t (record { waits = start; built = [] }) st h ∙ k in
       cc
 
-  -- under a greater limit the machine stands where it stood
+  -- under a greater limit the machine has the same state
   deeper_by : (front : List Token) (st : State) → Stands limit front st → Stands (limit + 1) front st
   unfolding steps
   deeper_by [] st h = h

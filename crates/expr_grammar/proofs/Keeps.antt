@@ -161,7 +161,7 @@ module _ (s : Scope) (lawful : IsLawful s) (limit : ℕ) where
   good_named v ty call d t new below r n g (by_dot u is known leaves) = moved below _ new leaves (r.1 u known, n, g)
   good_named v ty call d t new below r n g (by_call c is known deep leaves) = moved below _ new leaves (good_arguments c (suc d) below (r.2 c known) g)
 
-  -- behind the word of a command
+  -- after the word of a command
   good_verb : (v : Verb) (below : List Symbol) → ServesCommands s → may_begin s v ≡ true → below ≡ [] → Kept below → Kept (behind_verb v ++ below)
   unfolding Kept
   good_verb verbs.Create below r may n g = (r, tt, (tt, tt, (r, ap (λ w. wait.Do act.Create ∷ w) n, (tt, tt, g))))

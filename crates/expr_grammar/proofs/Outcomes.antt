@@ -1,4 +1,4 @@
--- Each answer is what the machine does: it reads the text, or it refuses it for a fault that isn't want of memory.
+-- Each result is what the machine does: it reads the text, or it refuses it for a fault other than Memory.
 use Rattle.std.proofs.Common.{ℕ, ◌≡◌, ◌≤◌, ◌<◌, ◌+◌, ◌^◌, List, [], ◌∷◌, ◌++◌, map, Bool, true, false, ◌||◌, cond, length, Option, None, Some, Result, Err, refl, sym, ap, ◌∙◌}
 use Rattle.std.specs.Prelude.{nat_lt, nat_le, is_some, MatchResult}
 use Rattle.std.proofs.lemmas.Bool.{ltb-true, ltb-false}
@@ -17,7 +17,7 @@ use Rattle.expr_grammar.specs.Stops.{cause_at, deep_or, Halts}
 use Rattle.expr_grammar.specs.Readings.{Reads, Refuses, too_long, stopped as stops_in}
 use Rattle.expr_grammar.specs.Scopes.{Scope}
 
--- ---- a fault at a token isn't want of memory
+-- ---- a fault at a token isn't Memory
 
 deep_not_memory : (b : Bool) (c : ExprCause) → (c ≡ Memory → ⊥) → deep_or b c ≡ Memory → ⊥
 deep_not_memory true c not h = let e : TooDeep ≡ Memory = h in cc

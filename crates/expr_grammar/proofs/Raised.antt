@@ -79,7 +79,7 @@ module _ (s : Scope) (limit up : ℕ) (above : limit ≤ up) where
   taken x (sign g) new h = h
   taken x bad new h = h
 
-  -- what stands below an expression takes no opening parenthesis
+  -- the symbol below an expression takes no opening parenthesis
   no_open : (ws : List Symbol) (bs : List Built) → soft ws ≡ true → settle s limit ws bs (sign Open) ≡ None
   unfolding settle take may_end ended
   no_open [] bs h = refl
@@ -117,7 +117,7 @@ module _ (s : Scope) (lawful : IsLawful s) (limit up : ℕ) (above : limit ≤ u
         ∙ ap (λ b. onward None b below bs (settle s up below (ended x bs) t)) ends ∙ later k
     by None false e ends k later = absurd cc
 
-  -- where the machine stands is the same under a greater limit
+  -- the machine's state is the same under a greater limit
   pub raised : (front : List Token) (state last : State) → Good s lawful limit state.waits → steps s limit state front ≡ Some last → steps s up state front ≡ Some last
   unfolding steps
   raised [] state last g h = h

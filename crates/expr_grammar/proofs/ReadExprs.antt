@@ -122,7 +122,7 @@ module _ (s : Scope) (limit : ℕ) where
         goes_on = c.goes_on;
       }
 
-  -- the arguments of a call, behind its name and its opening parenthesis
+  -- the arguments of a call, after its name and its opening parenthesis
   call_read : (n : ℕ) → Shorter n → (c : Call) (d : ℕ) (name : List ℕ) (below : List Symbol) (bs : List Built) (ts : List Token) (ws : List Built)
       → length ts < n → d < limit → s.call name ≡ Some c → run s limit (arguments c (suc d) ++ below) bs ts ≡ Some ws → ReadSuffix d name below (sign Open ∷ ts) ws
   call_read n ih (calls.Two op) d name below bs ts ws short deep is h =
@@ -374,7 +374,7 @@ module _ (s : Scope) (limit : ℕ) where
     pub built : List Built
     pub goes_on : run s limit below built rest ≡ Some ws
 
-  -- behind an operator and its operand
+  -- after an operator and its operand
   tail_on : (level d : ℕ) (b : Bool) (below : List Symbol) (bs : List Built) (ts : List Token) (ws : List Built)
       → (run s limit (wait.Tail level d ∷ below) bs ts ≡ Some ws → ReadTail level d below ts ws)
       → run s limit (cond b (wait.Tail level d ∷ []) [] ++ below) bs ts ≡ Some ws → (r : ReadTail level d below ts ws) × MayGoOn b r.tree

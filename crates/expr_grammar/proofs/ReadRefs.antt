@@ -174,7 +174,7 @@ module _ (s : Scope) (limit : ℕ) where
   read_type_field role below bs (bad ∷ ts) ws h = absurd cc
   read_type_field role below bs (word name ∷ ts) ws h = word_read (λ ty. wait.Dot ∷ wait.Field ty role ∷ []) (s.has_field role) name below bs ts ws (settle s limit below bs (word name)) h
 
-  -- what was read of a tree, and what goes on behind it
+  -- what was read of a tree, and what follows it
   pub record Read {Tree : Type 0} (Fit : Tree → Type 0) (spelled : Tree → List Token → List Token) (below : List Symbol) (ts : List Token) (ws : List Built) : Type 0 where
     pub tree : Tree
     pub fits : Fit tree

@@ -23,7 +23,7 @@ module _ (s : Scope) (limit : ℕ) where
   run_take symbol below bs t ts new e =
       ap (λ r. go_on (onward r (may_end symbol) below bs (settle s limit below (ended symbol bs) t)) (λ state. run s limit state.waits state.built ts)) e
 
-  -- the symbol takes no token that stands next
+  -- the symbol doesn't take the next token
   abbrev pub Leaves : Symbol → List Token → Type 0
   Leaves symbol [] = Unit {0}
   Leaves symbol (t ∷ ts) = take s limit symbol t ≡ None
@@ -44,7 +44,7 @@ module _ (s : Scope) (limit : ℕ) where
   run_do a below bs (sign g ∷ ts) = refl
   run_do a below bs (bad ∷ ts) = refl
 
--- Whether the token that stands next is no operator of a level below, no dot and no opening parenthesis.
+-- `true` if the next token is no operator of a level below, no dot and no opening parenthesis.
 abbrev pub stops_operator : ℕ → Option (BinaryOp × ℕ) → Bool
 stops_operator level None = true
 stops_operator level (Some (op, at)) = nat_le level at

@@ -124,7 +124,7 @@ module _ (s : Scope) (lawful : IsLawful s) (limit : ℕ) where
       → spell_ref r (sign g ∷ us) ≡ spell_ref r' (sign g ∷ vs) → (r ≡ r') × (us ≡ vs)
   ref_then r r' g us vs f f' h e = let w = unique_ref s r r' false (sign g ∷ us) (sign g ∷ vs) f f' h h e in (w.0, let rest = w.1 in cc)
 
-  -- what stands behind a sign
+  -- what follows a sign
   behind : (g : Sign) (xs ys : List Token) → sign g ∷ xs ≡ sign g ∷ ys → xs ≡ ys
   behind g xs ys e = cc
 

@@ -1,4 +1,4 @@
--- What is answered for a text where it stands, as a function: what it means, or its first fault.
+-- The result for a text in its scope, as a function: what the text means, or its first fault.
 use Rattle.std.specs.Prelude.{ℕ, ◌≡◌, List, [], ◌∷◌, nat_lt, Option, None, Some, if◌then◌else◌, length, pos, false, Result, Ok, Err}
 use Rattle.expr_tokens.specs.Tokens.{Placed}
 use Rattle.expr_tokens.specs.Lexing.{tokens_of}
@@ -95,7 +95,7 @@ switch_answer s text = made_by the_switch (answer s (wait.Type Switched ∷ wait
 unfoldable pub command_answer : Scope → List ℕ → Result CommandText ExprFault
 command_answer s text = made_by the_command (answer s (wait.Verb ∷ []) text)
 
--- a fact that holds but for want of memory
+-- a fact that holds unless memory ran out
 abbrev pub ButMemory : ExprCause → Type 0 → Type 0
 ButMemory Memory P = Unit {0}
 ButMemory TooLong P = P
@@ -105,7 +105,7 @@ ButMemory TooDeep P = P
 ButMemory UnknownName P = P
 ButMemory Unexpected P = P
 
--- a reader answers what is meant, or that memory ran out
+-- a reader returns what the text means, or that memory ran out
 abbrev pub Tells : {A : Type 0} → Result A ExprFault → Result A ExprFault → Type 0
 Tells meant (Ok x) = meant ≡ Ok x
 Tells meant (Err fault) = ButMemory fault.cause (meant ≡ Err fault)

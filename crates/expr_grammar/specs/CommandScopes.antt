@@ -1,4 +1,4 @@
--- What the theory of commands needs of a scope, besides `IsLawful`: where a type or a new name is waited for, one can come.
+-- What the theory of commands needs of a scope in addition to `IsLawful`: if a type or a new name is expected, there is one.
 use Rattle.std.specs.Prelude.{ℕ, ◌≡◌, List, [], ◌∷◌, true, false, ◌||◌, ◌==◌, Some}
 use Rattle.ent_types.specs.declared.entity.TypeId.{TypeId}
 use Rattle.expr_grammar.specs.declared.words.TypeUse.{TypeUse}

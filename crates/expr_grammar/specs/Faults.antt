@@ -63,7 +63,7 @@ module _ {Tree Meaning : Type 0} (texts : Texts Tree Meaning) where
   HasCause limit front t TooLong = ⊥
   HasCause limit front t Memory = ⊥
 
-  -- what is wrong behind the front
+  -- what is wrong after the front
   abbrev pub IsStuck : ℕ → List Token → List Placed → ℕ → ExprCause → ℕ → Type 0
   IsStuck limit front [] end cause at = (IsText limit front → ⊥) × (cause ≡ Unexpected) × (at ≡ end)
   IsStuck limit front (p ∷ rest) end cause at =

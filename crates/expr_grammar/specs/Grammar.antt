@@ -14,7 +14,7 @@ use Rattle.expr_grammar.specs.declared.words.Change.TheVariants.{Add, Set, SetSh
 use Rattle.expr_grammar.specs.declared.words.Turn.{Turn}
 use Rattle.expr_grammar.specs.declared.words.Turn.TheVariants.{Remove, Enable, Disable}
 
--- What a name alone, or with a field behind it, is as a reference.
+-- What a name alone, or a name with a field, is as a reference.
 pub data AfterName : Type 0 where
   -- `null`, `self` or a made name
   plain : RefExpr → AfterName
@@ -39,7 +39,7 @@ pub data Syntax : Sort → Type 0 where
   group : Syntax expr → Syntax operand
   signed : Sign → UnaryOp → Syntax operand → Syntax operand
   named : List ℕ → Syntax suffix → Syntax operand
-  -- what follows a name: nothing behind a variable, "." FIELD behind a type, the arguments of a call
+  -- what follows a name: nothing after a variable, "." FIELD after a type, the arguments of a call
   alone : Variable → Syntax suffix
   field : List ℕ → TypeId → ℕ → Syntax suffix
   two : BinaryOp → Syntax expr → Syntax expr → Syntax suffix

@@ -1,4 +1,4 @@
--- A machine that reads tokens one by one: what it waits for is a stack of symbols, and what it has built another.
+-- A machine that reads tokens one by one. It has a stack of the symbols that it waits for, and a stack of the trees that it built.
 use Rattle.std.specs.Prelude.{ℕ, zero, suc, ◌+◌, ◌^◌, List, [], ◌∷◌, ◌++◌, Bool, true, false, not, ◌&&◌, ◌||◌, nat_lt, nat_eq, Option, Some, None, if◌then◌else◌, is_some, pos, map, drop, codes}
 use Rattle.ent_types.specs.declared.entity.TypeId.{TypeId}
 use Rattle.ent_types.specs.Types.{same_name}
@@ -55,7 +55,7 @@ field_type s role name = kept (s.has_field role) (s.find name)
 abbrev pub type_by : Scope → TypeUse → List ℕ → Option TypeId
 type_by s role name = kept (s.allows role) (s.find name)
 
--- what stands behind the opening parenthesis of a call
+-- what follows the opening parenthesis of a call
 abbrev pub arguments : Call → ℕ → List Symbol
 arguments (calls.Two op) d = wait.Level 5 d ∷ wait.Comma ∷ wait.Level 5 d ∷ wait.Close ∷ wait.Do (act.Binary op) ∷ []
 arguments calls.Pick d =
@@ -71,14 +71,14 @@ abbrev pub value_place : Bool → Bool → Symbol
 value_place made true = wait.Ref made
 value_place made false = wait.Level 5 0
 
--- what stands behind a field's name
+-- what follows a field's name
 abbrev pub behind_field : Scope → FieldUse → TypeId → ℕ → List Symbol
 behind_field s NumberField ty i = wait.Do (act.Own ty i) ∷ []
 behind_field s EntityField ty i = wait.Do (act.Ref (refs.Own ty i)) ∷ []
 behind_field s Looked ty i = wait.Do (act.Field ty i) ∷ []
 behind_field s Assigned ty i = wait.Do (act.Field ty i) ∷ wait.Becomes ∷ value_place false (s.is_ref ty i) ∷ []
 
--- each token in the place of a symbol: the symbols that it leaves, where it may begin what the symbol stands for
+-- the symbols that a token leaves instead of a symbol, if it may begin what the symbol stands for
 abbrev pub map_some : {A B : Type 0} → (A → B) → Option A → Option B
 map_some f None = None
 map_some f (Some x) = Some (f x)
@@ -135,7 +135,7 @@ verb_of name =
     else if same_name name (codes "instantiate") then Some verbs.Instantiate
     else None
 
--- what stands behind the word of a command
+-- what follows the word of a command
 abbrev pub behind_verb : Verb → List Symbol
 behind_verb verbs.Create = wait.New ∷ wait.Do act.NoParts ∷ wait.With ∷ wait.Do act.Create ∷ []
 behind_verb verbs.Destroy = wait.Ref true ∷ wait.Do act.Destroy ∷ []
@@ -167,7 +167,7 @@ first_of (k ∷ ks) = Some k
 abbrev pub kind_at : List Bool → ℕ → Option Bool
 kind_at kinds at = first_of (drop at kinds)
 
--- what stands behind the type of a part
+-- what follows the type of a part
 abbrev pub values_of : TypeId → Option Bool → List Symbol
 values_of ty None = []
 values_of ty (Some k) = wait.Values ty ∷ []
@@ -175,7 +175,7 @@ values_of ty (Some k) = wait.Values ty ∷ []
 abbrev pub part_places : Scope → TypeId → List Symbol
 part_places s ty = wait.Do (act.Part ty) ∷ values_of ty (kind_at (s.refs ty) 0)
 
--- the value of a field of a part, and those behind it
+-- the value of a field of a part, and the values after it
 abbrev pub takes_value : TypeId → ℕ → Option Bool → Option (List Symbol)
 takes_value ty at kind = map_some (λ k. value_place true k ∷ wait.Do act.Value ∷ wait.MoreValues ty (at + 1) ∷ []) kind
 
@@ -302,7 +302,7 @@ onward (Some new) ends below bs later = Some (record { waits = new ++ below; bui
 onward None true below bs later = later
 onward None false below bs later = None
 
--- the first symbol that takes the token, behind others that may end
+-- the first symbol that takes the token, after others that may end
 unfoldable pub settle : Scope → ℕ → List Symbol → List Built → Token → Option State
 settle s limit [] bs t = None
 settle s limit (symbol ∷ below) bs t =
@@ -325,7 +325,7 @@ unfoldable pub run : Scope → ℕ → List Symbol → List Built → List Token
 run s limit waits bs [] = finish waits bs
 run s limit waits bs (t ∷ ts) = go_on (settle s limit waits bs t) (λ state. run s limit state.waits state.built ts)
 
--- where the machine stands after some tokens, if it takes them all
+-- the machine's state after some tokens, if it takes them all
 unfoldable pub steps : Scope → ℕ → State → List Token → Option State
 steps s limit state [] = Some state
 steps s limit state (t ∷ ts) = and_then (settle s limit state.waits state.built t) (λ next. steps s limit next ts)

@@ -1,4 +1,4 @@
--- What the trees mean. Parentheses leave nothing, and a tail means a function of what stands on its left.
+-- What the trees mean. Parentheses leave nothing, and a tail means a function of what is on its left.
 use Rattle.std.specs.Prelude.{map, pos}
 use Rattle.ent_types.specs.declared.entity.TypeId.{TypeId}
 use Rattle.expr_trees.specs.declared.tree.Expr.{Expr}

@@ -1,4 +1,4 @@
--- What a reader of a text answers.
+-- What a reader of a text returns.
 use Rattle.std.specs.Prelude.{ℕ, ◌≡◌, ◌≤◌, ◌<◌, List, [], map, length, Some, Result, MatchResult}
 use Rattle.expr_tokens.specs.Tokens.{Placed, AreTokens}
 use Rattle.expr_grammar.specs.declared.fault.ExprFault.{ExprFault}
@@ -36,7 +36,7 @@ module _ {Tree Meaning : Type 0} (texts : Texts Tree Meaning) where
   IsFault text UnknownName at = IsFaulty text UnknownName at
   IsFault text Unexpected at = IsFaulty text Unexpected at
 
-  -- a text of at most 1,024 bytes is read with limit 64 of nesting, or its fault is told
+  -- a text of at most 1,024 bytes is read with limit 64 of nesting, or its fault is returned
   abbrev pub ReadsText : List ℕ → Result Meaning ExprFault → Type 0
   ReadsText text result = MatchResult result (λ meaning. IsMeant text meaning) (λ f. IsFault text f.cause f.at)
 

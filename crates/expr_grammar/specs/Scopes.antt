@@ -1,4 +1,4 @@
--- What the names of a text stand for, where it stands.
+-- What the names of a text mean in its scope.
 use Rattle.std.specs.Prelude.{ℕ, ◌≡◌, List, Bool, true, Option, Some, codes}
 use Rattle.ent_types.specs.declared.entity.TypeId.{TypeId}
 use Rattle.expr_trees.specs.declared.tree.Variable.{Variable}
@@ -14,7 +14,7 @@ use Rattle.expr_grammar.specs.declared.words.TypeUse.{TypeUse}
 pub record Scope : Type 0 where
   -- the variable of this name
   pub variable : List ℕ → Option Variable
-  -- the call of this name that may stand here
+  -- the call of this name that is allowed here
   pub call : List ℕ → Option Call
   -- the reference that a name alone is: `null`, `self`, or, where the first argument is true, a made name
   pub reference : Bool → List ℕ → Option RefExpr
@@ -43,7 +43,7 @@ pub record IsLawful (s : Scope) : Type 0 where
   pub field_there : (role : FieldUse) (ty : TypeId) → s.has_field role ty ≡ true → (f : List ℕ) × (i : ℕ) × (s.field role ty f ≡ Some i)
   -- `null` is a reference everywhere
   pub null : (made : Bool) → s.reference made (codes "null") ≡ Some Null
-  -- a call that may stand has types to name
+  -- a call that is allowed has types to name
   pub looked : (name : List ℕ) → s.call name ≡ Some Get → (t : List ℕ) × (ty : TypeId) × (s.find t ≡ Some ty) × (s.has_field Looked ty ≡ true)
   pub asked : (name : List ℕ) → s.call name ≡ Some Has → (t : List ℕ) × (ty : TypeId) × (s.find t ≡ Some ty) × (s.allows Asked ty ≡ true)
   pub owned : (name : List ℕ) → s.call name ≡ Some On → (t : List ℕ) × (ty : TypeId) × (s.find t ≡ Some ty) × (s.allows Own ty ≡ true)

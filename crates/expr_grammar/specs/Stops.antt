@@ -26,7 +26,7 @@ cause_at s limit waits bs (number n) =
     if (nat_le (2 ^ 63) n || is_some (settle s limit waits bs (number 0))) then NumberRange
     else deep_or (is_some (settle s (limit + 1) waits bs (number n))) Unexpected
 
--- the machine stops where it stands: it doesn't take the next token, or may not end where none is left
+-- the machine stops in its state: it doesn't take the next token, or may not end if none is left
 abbrev pub Halts : Scope → ℕ → State → List Placed → ℕ → ExprCause → ℕ → Type 0
 Halts s limit st [] end cause at = (finish st.waits st.built ≡ None) × (cause ≡ Unexpected) × (at ≡ end)
 Halts s limit st (p ∷ rest) end cause at =

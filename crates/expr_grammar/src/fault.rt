@@ -1,6 +1,6 @@
-//! What is wrong with a text.
+//! The fault of a text.
 
-/// Why a text isn't read.
+/// Why a text is refused.
 #[derive(Clone, Copy, Debug, PartialEq, Eq)]
 pub enum ExprCause {
     /// The text has more than 1,024 bytes.
@@ -11,20 +11,20 @@ pub enum ExprCause {
     NumberRange,
     /// The token opens the 65th level of nesting.
     TooDeep,
-    /// No name that may stand here is spelled so.
+    /// No name that is allowed here has this spelling.
     UnknownName,
-    /// A sign, a number or the end where none may be.
+    /// A sign, a number or the end is where none is allowed.
     Unexpected,
     /// Memory ran out.
     Memory,
 }
 
-/// The first fault of a text, with the place of its byte: that of the token, or the text's length at its end.
-/// With Memory the place is 0.
+/// The first fault of a text. Its place is that of the token's first byte, or the text's length if the fault is at the
+/// end. With `Memory` the place is 0.
 #[derive(Clone, Copy, Debug, PartialEq, Eq)]
 pub struct ExprFault {
-    /// Why.
+    /// Why the text is refused.
     pub cause: ExprCause,
-    /// The byte, from 0.
+    /// The byte that is at fault, from 0.
     pub at: u32,
 }

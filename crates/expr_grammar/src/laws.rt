@@ -1,4 +1,4 @@
-//! Laws of the grammar: a text has one derivation, and a machine with a stack reads exactly the texts.
+//! Laws of the grammar: a text has one derivation, and a machine with a stack reads exactly the texts of the grammar.
 ghost use Rattle.std.specs.Prelude.{◌≡◌, ◌≢◌, ℕ, List, [], ◌∷◌, ◌↔◌, Bool, false, Some, IfErr};
 ghost use Rattle.expr_tokens.specs.Tokens.{Token, Placed};
 ghost use Rattle.expr_grammar.specs.declared.fault.ExprCause.{ExprCause};
@@ -19,13 +19,13 @@ ghost use Rattle.expr_grammar.specs.Stops.{Stops};
 ghost use Rattle.expr_grammar.specs.Readings.{ReadsText};
 ghost use Rattle.expr_grammar.specs.Scopes.{Scope, IsLawful};
 
-/// Tokens have one derivation at most, as an expression and as a reference.
+/// A list of tokens has at most one derivation as an expression, and at most one as a reference.
 pub fn one_derivation()
     ensures exprs { (s : Scope) → IsLawful s → (limit : ℕ) (x y : Syntax expr) → FitsExpr s limit 0 x → FitsExpr s limit 0 y → spell x [] ≡ spell y [] → x ≡ y }
     ensures refs { (s : Scope) → IsLawful s → (made : Bool) (x y : Ref) → FitsRef s made x → FitsRef s made y → spell_ref x [] ≡ spell_ref y [] → x ≡ y }
 {}
 
-/// The machine builds what a derivation means, and takes no tokens without a derivation.
+/// The machine builds what a derivation means, and accepts only tokens that have a derivation.
 pub fn machine_reads_the_grammar()
     ensures builds { (s : Scope) → IsLawful s → (limit : ℕ) (e : Syntax expr) → FitsExpr s limit 0 e →
         run s limit (wait.Level 5 0 ∷ []) [] (spell e []) ≡ Some (built.Int (meaning e) ∷ []) }
@@ -37,8 +37,8 @@ pub fn machine_reads_the_grammar()
         ((r : Ref) × FitsRef s made r × (spell_ref r [] ≡ ts) × (ws ≡ built.Ref (meaning_ref r) ∷ [])) }
 {}
 
-/// The machine builds what the one derivation of a command means, and takes no tokens without a derivation. Where it stops
-/// there is the first fault.
+/// The machine builds what the one derivation of a command means, and accepts only tokens that have a derivation. It
+/// stops at the first fault.
 pub fn machine_reads_commands()
     ensures builds { (s : Scope) → IsLawful s → ServesCommands s → (limit : ℕ) (c : Command) → FitsCommand s limit c →
         run s limit (wait.Verb ∷ []) [] (spell_command c) ≡ Some (built.Command (meaning_command c) ∷ []) }
@@ -49,7 +49,7 @@ pub fn machine_reads_commands()
         Stops s limit (wait.Verb ∷ []) tokens end cause at → IsFirstFault (commands s) limit tokens end cause at }
 {}
 
-/// The machine takes some tokens exactly where a text of the grammar begins with them. So it stops at the first token
+/// The machine takes some tokens if and only if a text of the grammar begins with them. So it stops at the first token
 /// after which no text can follow.
 pub fn goes_on_with_the_grammar()
     ensures exprs { (s : Scope) → IsLawful s → (limit : ℕ) (front : List Token) →
@@ -58,7 +58,7 @@ pub fn goes_on_with_the_grammar()
         CanGoOn (refs s) limit front ↔ ((st : State) × (steps s limit (record { waits = wait.Ref false ∷ []; built = [] }) front ≡ Some st)) }
 {}
 
-/// Where the machine stops there is the first fault of the text, with the cause that the next token has.
+/// The machine stops at the first fault of the text, and the next token has its cause.
 pub fn stops_at_the_first_fault()
     ensures exprs { (s : Scope) → IsLawful s → (limit : ℕ) (tokens : List Placed) (end : ℕ) (cause : ExprCause) (at : ℕ) →
         Stops s limit (wait.Level 5 0 ∷ []) tokens end cause at → IsFirstFault (exprs s) limit tokens end cause at }
@@ -70,7 +70,8 @@ pub fn stops_at_the_first_fault()
         Stops s limit (wait.Type Switched ∷ wait.Becomes ∷ wait.Level 5 0 ∷ []) tokens end cause at → IsFirstFault (switches s) limit tokens end cause at }
 {}
 
-/// Each text has one answer, and that is the grammar's: what the text means, or its first fault, never want of memory.
+/// Each text has one result, which follows from the grammar: what the text means, or its first fault. The fault is never
+/// that memory ran out.
 pub fn texts_are_answered_by_the_grammar()
     ensures exprs { (s : Scope) → IsLawful s → (text : List ℕ) →
         ReadsText (exprs s) text (expr_answer s text) × IfErr (expr_answer s text) (λ f. f.cause ≢ ExprCause.Memory) }

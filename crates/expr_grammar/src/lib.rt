@@ -1,4 +1,5 @@
-//! The grammar of the little language, with its laws, over any names, and a machine with a stack that reads it.
+//! The grammar of the expression language, its laws, and a machine with a stack that reads it. The names of a text may
+//! have any meaning.
 #![tactic(auto)]
 
 mod fault;

@@ -1,9 +1,10 @@
-//! What a reader still waits for, and what it has built.
+//! What the machine of the grammar still waits for, and what it has built.
 use crate::{Call, Change, FieldUse, Turn, TypeUse};
 use ent_types::{Name, Sequence, TypeId, TypeSet};
 use expr_trees::{BinaryOp, CommandText, Expr, PartExpr, RefExpr, UnaryOp, Variable};
+use sqlite_items::Boxed;
 
-/// A place of the grammar that the tokens to come have to fill.
+/// A place of the grammar that the next tokens have to fill.
 #[derive(Clone, Copy, Debug)]
 pub enum Symbol {
     /// An expression of operators below the level, at a depth.
@@ -38,7 +39,7 @@ pub enum Symbol {
     },
     /// A type, a dot and a field.
     TypeField(FieldUse),
-    /// A reference; `made` says whether a made name fits.
+    /// A reference; `made` is true if a made name fits.
     Ref {
         made: bool,
     },
@@ -47,11 +48,11 @@ pub enum Symbol {
         plain: Option<RefExpr>,
         ty: Option<TypeId>,
     },
-    /// The colon behind an index.
+    /// The colon after an index.
     Colon {
         index: u32,
     },
-    /// The version behind an index and a colon.
+    /// The version after an index and a colon.
     Version {
         index: u32,
     },
@@ -73,21 +74,21 @@ pub enum Symbol {
     MoreParts(TypeSet),
     /// The values of a part of this type, in parentheses.
     Values(TypeId),
-    /// The values of the fields from this place on, each behind a comma, and `)`.
+    /// The values of the fields from this place on, each after a comma, and `)`.
     MoreValues {
         ty: TypeId,
         at: u8,
     },
-    /// Nothing: a step of building.
+    /// No token: a step that builds a tree.
     Do(Action),
 }
 
-/// A step of building, from what was built last.
+/// A step that builds a tree from the trees that were built last.
 #[derive(Clone, Copy, Debug)]
 pub enum Action {
     /// A number.
     Number(i64),
-    /// A field of the own row in an expression.
+    /// A field of the own row, in an expression.
     Own { ty: TypeId, field: u8 },
     /// A reference.
     Ref(RefExpr),
@@ -113,9 +114,9 @@ pub enum Action {
     On,
     /// A name to be made.
     New(Name),
-    /// No parts so far.
+    /// An empty list of parts.
     NoParts,
-    /// A part of this type, without values so far.
+    /// A part of this type, with no values yet.
     Part(TypeId),
     /// The last value as one more of the part before it.
     Value,
@@ -133,11 +134,11 @@ pub enum Action {
     Instantiate,
 }
 
-/// Something built.
+/// A tree that was built. Large trees are in boxes, so that a move of a built tree is cheap.
 #[derive(Debug, Drop)]
 pub enum Built {
     /// An expression.
-    Int(Expr),
+    Int(Boxed<Expr>),
     /// A reference.
     Ref(RefExpr),
     /// A type.
@@ -145,11 +146,11 @@ pub enum Built {
     /// A type with a field.
     Field { ty: TypeId, field: u8 },
     /// A name to be made.
-    Name(Name),
+    Name(Boxed<Name>),
     /// A part.
     Part(PartExpr),
     /// Parts of `create`.
     Parts(Sequence<PartExpr>),
     /// A command.
-    Command(CommandText),
+    Command(Boxed<CommandText>),
 }

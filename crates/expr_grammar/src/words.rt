@@ -1,4 +1,4 @@
-//! The words of the language that stand for no variable and no type.
+//! The words of the language that name neither a variable nor a type.
 use expr_trees::BinaryOp;
 
 /// A call, by its name. `min` and `max` have two operands.
@@ -20,7 +20,7 @@ pub enum Call {
     On,
 }
 
-/// Where a field is named.
+/// The use of a field that a text names.
 #[derive(Clone, Copy, Debug, PartialEq, Eq)]
 pub enum FieldUse {
     /// In an expression: an i32 or i64 field of a bound type.
@@ -33,7 +33,7 @@ pub enum FieldUse {
     Assigned,
 }
 
-/// Where a type is named by itself.
+/// The use of a type that a text names without a field.
 #[derive(Clone, Copy, Debug, PartialEq, Eq)]
 pub enum TypeUse {
     /// In `has`: any type.

@@ -15,7 +15,7 @@ use Rattle.expr_grammar.specs.Stops.{Halts, Stops, cause_at, deep_or}
 use Rattle.expr_grammar.specs.Readings.{OutOfMemory}
 use Rattle.expr_grammar.specs.Scopes.{Scope}
 use Rattle.expr_grammar.proofs.FirstFaults.{one_more, run_taken}
-use Rattle.expr_machine.specs.Expecting.{Agrees, Follows}
+use Rattle.expr_steps.specs.Expecting.{Agrees, Follows}
 
 abbrev pub token_of : Placed → Token
 token_of p = p.token

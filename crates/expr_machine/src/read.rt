@@ -4,19 +4,13 @@ ghost use Rattle.expr_tokens.specs.Seen.{seen, token_seen};
 ghost use Rattle.expr_grammar.specs.Machine.{settle, finish, run};
 ghost use Rattle.expr_grammar.specs.Stops.{Halts, Stops};
 ghost use Rattle.expr_grammar.specs.Readings.{OutOfMemory, Reads, Refuses};
-ghost use Rattle.expr_machine.specs.Expecting.{symbols, Follows};
+ghost use Rattle.expr_steps.specs.Expecting.{symbols, Follows};
 
-use crate::cause::{LIMIT, cause_at};
-use crate::expected::Expected;
-use crate::names::Names;
-use crate::stack::Stack;
-use crate::step::{end_first, may_finish, settle};
+use ent_types::limits::{LONGEST_TEXT, MOST_NESTING};
 use expr_grammar::{Built, ExprCause, ExprFault};
+use expr_steps::{Expected, Names, Stack, cause_at, end_first, may_finish, settle};
 use expr_tokens::{Lexeme, tokens};
 use std::alloc::Global;
-
-/// The greatest number of bytes of a text.
-const LONGEST: usize = 1024;
 
 /// Returns the fault if memory runs out.
 pub(crate) fn out_of_memory() -> ExprFault
@@ -39,7 +33,7 @@ fn step<N: Names>(
     ensures taken { OnOk result (Follows (settle (N.scope names.now) 64 (symbols expected.old) operands.old (token_seen lexeme.entry.token)) (record { waits = symbols expected.new; built = operands.new })) }
     ensures refused { IfErr result (λ f. OutOfMemory f ⊎ Halts (N.scope names.now) 64 (record { waits = symbols expected.old; built = operands.old }) (seen lexeme.entry ∷ []) 0 f.cause f.at) }
 {
-    match settle(alloc, names, LIMIT, expected, operands, lexeme.token) {
+    match settle(alloc, names, MOST_NESTING, expected, operands, lexeme.token) {
         Ok(taken) => {
             if taken {
                 return Ok(());
@@ -105,10 +99,10 @@ pub(crate) fn read_text<N: Names>(
     ensures { MatchResult result (λ ws. Reads (N.scope names.now) (symbols expected) text.now ws) (λ f. Refuses (N.scope names.now) (symbols expected) text.now f) }
 {
     let bytes = text.as_bytes();
-    if bytes.len() > LONGEST {
+    if bytes.len() > LONGEST_TEXT {
         return Err(ExprFault {
             cause: ExprCause::TooLong,
-            at: LONGEST as u32,
+            at: LONGEST_TEXT as u32,
         });
     }
     match tokens(alloc, bytes) {

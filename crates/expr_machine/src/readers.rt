@@ -14,15 +14,15 @@ ghost use Rattle.expr_grammar.specs.Readings.{Reads, Refuses, ReadsText};
 ghost use Rattle.expr_grammar.specs.Scopes.{IsLawful};
 ghost use Rattle.expr_grammar.specs.declared.symbol.Symbol.TheVariants as wait;
 ghost use Rattle.expr_grammar.specs.Stops.{built_of, built_assign, built_switch};
-ghost use Rattle.expr_machine.specs.Expecting.{symbols};
+ghost use Rattle.expr_steps.specs.Expecting.{symbols};
 
-use crate::expected::{Expected, WHOLE, whole};
-use crate::names::Names;
-use crate::operands::{pop_command, pop_field, pop_int, pop_ref, pop_type, pop_value};
 use crate::read::{out_of_memory, read_text};
-use crate::stack::Stack;
 use ent_types::Memory;
 use expr_grammar::{Built, ExprFault, FieldUse, TypeUse};
+use expr_steps::{
+    Expected, Names, Stack, WHOLE, pop_command, pop_field, pop_int, pop_ref, pop_type, pop_value,
+    whole,
+};
 use expr_trees::{Assign, CommandText, Expr, RefExpr, Switch, ValueExpr};
 use std::alloc::Global;
 
@@ -49,7 +49,7 @@ fn the_int(built: Stack<Built>) -> Expr
 {
     let mut built = built;
     match pop_int(&mut built) {
-        Some(value) => value,
+        Some(value) => value.into_inner(),
         None => unreachable!(),
     }
 }
@@ -90,7 +90,10 @@ fn the_switch(built: Stack<Built>) -> Switch
     let mut built = built;
     match pop_int(&mut built) {
         Some(value) => match pop_type(&mut built) {
-            Some(ty) => Switch { ty, value },
+            Some(ty) => Switch {
+                ty,
+                value: value.into_inner(),
+            },
             None => unreachable!(),
         },
         None => unreachable!(),

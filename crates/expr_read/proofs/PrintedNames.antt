@@ -1,4 +1,4 @@
--- What the names of a printed expression stand for.
+-- What the names of a printed expression mean.
 use Rattle.std.proofs.Common.{ℕ, ◌≡◌, ◌<◌, List, Bool, true, cond, Some, None, length, [], ap, ◌∙◌}
 use Rattle.std.proofs.lemmas.Bool.{and_parts, ltb-true}
 use Rattle.ent_types.specs.declared.entity.TypeId.{TypeId}

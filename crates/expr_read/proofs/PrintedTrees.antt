@@ -114,7 +114,7 @@ pub record PrintedRef (types : List TypeInfo) (r : RefExpr) (text : List ℕ) : 
   pub fits : FitsRef (anywhere types) false tree
   pub lexes : (rest : List ℕ) (ts : List Token) → Ends rest → Lexes rest ts → Lexes (text ++ rest) (spell_ref tree ts)
 
--- a name and the parenthesis behind it
+-- a name and the parenthesis after it
 pub lex_call : (name : List ℕ) {text : List ℕ} {ts : List Token} → is_name name ≡ true → Lexes text ts → Lexes (name ++ (40 ∷ text)) (word name ∷ sign signs.Open ∷ ts)
 lex_call name is h = lex_name name is refl (lex_open h)
 

@@ -1,4 +1,4 @@
--- The text that is printed for an expression: each operand of an operator stands in parentheses.
+-- The text that is printed for an expression: each operand of an operator is in parentheses.
 use Rattle.std.specs.Prelude.{ℕ, ℤ, pos, ◌^◌, List, [], ◌++◌, Bool, true, false, ◌&&◌, nat_lt, length, slice_index_or, codes}
 use Rattle.std.specs.Fmt.{decimal, signed_decimal}
 use Rattle.ent_types.specs.declared.entity.TypeId.{TypeId}
@@ -47,18 +47,18 @@ variable_word variables.Index = codes "index"
 variable_word variables.Version = codes "version"
 variable_word variables.N = codes "n"
 
--- what stands before the operand
+-- what precedes the operand
 abbrev pub sign_opening : UnaryOp → List ℕ
 sign_opening unary.Minus = codes "-("
 sign_opening unary.Not = codes "!("
 
--- what stands before the first of two operands
+-- what precedes the first of two operands
 abbrev pub opening : BinaryOp → List ℕ
 opening binary.Min = codes "min("
 opening binary.Max = codes "max("
 opening _ = codes "("
 
--- what stands between two operands
+-- what separates two operands
 abbrev pub between : BinaryOp → List ℕ
 between binary.Or = codes ") || ("
 between binary.And = codes ") && ("
@@ -134,7 +134,7 @@ is_printable_ref types (refs.Entity e) = true
 abbrev pub is_printable : List TypeInfo → Expr → Bool
 is_printable types = leaves_pass is_natural (is_field types) (is_printable_ref types) (is_known types)
 
--- ---- what a printed expression also meets, since its numbers are of so many bits and its names are names
+-- ---- what a printed expression also meets, since its numbers have a fixed width and its names are lawful
 
 abbrev pub is_int : ℤ → Bool
 is_int (pos n) = nat_lt n (2 ^ 63)

@@ -1,4 +1,4 @@
--- What a text of an expression is where every name may stand at any place.
+-- The text of an expression in a scope where every name is allowed at any place.
 use Rattle.std.specs.Prelude.{ℕ, ◌≡◌, List, [], Bool, true, ◌&&◌, nat_lt, length, map, codes, not, if◌then◌else◌, Option, Some, None}
 use Rattle.ent_types.specs.declared.entity.TypeId.{TypeId}
 use Rattle.ent_types.specs.declared.type_info.TypeInfo.{TypeInfo}
@@ -31,7 +31,7 @@ any_reference made name =
 abbrev pub any_field : List TypeInfo → FieldUse → TypeId → List ℕ → Option ℕ
 any_field types role ty name = if is_known types ty then field_named (type_at types ty.0) name else None
 
--- `self`, every variable, every call and every type and field of the registry may stand at any place
+-- `self`, every variable, every call and every type and field of the registry is allowed at any place
 abbrev pub anywhere : List TypeInfo → Scope
 anywhere types =
     record {

@@ -1,4 +1,4 @@
--- What the names of a text stand for in a spawn, an event or a system.
+-- What the names of a text mean in a spawn, an event or a system.
 use Rattle.std.specs.Prelude.{ℕ, List, [], ◌∷◌, Bool, true, false, not, ◌&&◌, ◌||◌, ◌==◌, ◌+◌, nat_lt, length, codes, find, map, if◌then◌else◌, Option, Some, None, option_map, option_and_then}
 use Rattle.std.specs.List.{list_any}
 use Rattle.ent_types.specs.declared.entity.TypeId.{TypeId}

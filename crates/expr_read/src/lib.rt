@@ -1,4 +1,4 @@
-//! The little language of scenarios: what its names stand for, its texts as trees, and trees as texts.
+//! The expression language of scenarios: what its names mean, the readers of its texts, and the printer of trees.
 #![tactic(auto)]
 
 mod places;

@@ -1,4 +1,4 @@
-//! The text of an expression, in which each operand of an operator stands in parentheses.
+//! The text of an expression, in which each operand of an operator is in parentheses.
 ghost use Rattle.std.specs.Prelude.{◌≡◌, ◌++◌, true, string_bytes, OnOk, IfOk};
 ghost use Rattle.expr_read.specs.Printing.{IsPrintable, Prints};
 ghost use Rattle.expr_read.specs.PrintedTexts.{expr_text, is_printable, is_spelled};
@@ -12,12 +12,11 @@ use leaves::{push_alive, push_field, push_get, push_has, push_number, push_on, p
 use std::alloc::{AllocError, Global};
 use words::{between, opening, sign_opening, variable_word};
 
-/// A text whose tokens derive the expression by the grammar, where `self`, every variable, every call and every type
-/// and field of the registry may stand at any place, whatever the field holds. Its length and nesting have no limit
-/// here.
+/// Returns a text whose tokens derive the expression by the grammar, in a scope where `self`, every variable, every call
+/// and every type and field of the registry is allowed at any place. Its length and nesting have no limit here.
 ///
 /// The registry knows the types and fields of the expression, its numbers are at least 0, and no reference in it is a
-/// made name. Each operand of an operator stands in parentheses. This project's own.
+/// made name. Each operand of an operator is in parentheses. This project's own.
 pub fn print_expr(alloc: Global, e: &Expr, registry: &Registry) -> Result<String, Memory>
     requires { IsPrintable registry.now e.now }
     ensures { IfOk result (λ text. Prints registry.now e.now (string_bytes text)) }

@@ -1,4 +1,4 @@
-//! What the names of a text stand for, by the place of the text.
+//! What the names of a text mean, by the place of the text.
 ghost use Rattle.std.specs.Prelude.{◌≡◌, ◌<◌, ◌≤◌, ◌&&◌, not, length};
 ghost use Rattle.expr_read.specs.ScopeOf.{is_system, is_known, is_own, may_name, is_open, may_stand, scope_of};
 ghost use Rattle.expr_grammar.specs.CommandScopes.{ServesCommands};
@@ -16,7 +16,7 @@ use ent_types::{Kind, Name, Registry, TypeId, TypeInfo, TypeSet};
 use expr_machine::Names;
 use left::{is_left, is_taken, kind_at};
 
-/// Where a text stands, which decides what its names may be.
+/// The place of a text, which decides what its names may be.
 ///
 /// This project's own.
 #[derive(Clone, Copy, Debug, PartialEq, Eq)]
@@ -51,7 +51,7 @@ pub struct Made {
 pub struct Scope<'a> {
     /// The types.
     pub registry: &'a Registry,
-    /// Where the text stands.
+    /// The place of the text.
     pub place: TextPlace,
     /// The types whose values a system sees in each row.
     pub bound: &'a TypeSet,

@@ -1,4 +1,4 @@
--- Which token stands in front of a text.
+-- The first token of a text.
 use Rattle.std.proofs.Common.{ℕ, zero, suc, ◌≡◌, ◌≤◌, ◌<◌, List, [], ◌∷◌, Bool, true, false, ◌||◌, eqb, length, get_or, take, Some, None, refl, sym, ap, ◌∙◌, subst, arith, ⊎_elim, length-take, length-take-le}
 use Rattle.std.specs.List.{list_all}
 use Rattle.std.specs.Prelude.{All}

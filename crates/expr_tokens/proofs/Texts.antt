@@ -49,7 +49,7 @@ spans_within (number v) n text h = h.within
 spans_within (sign s) n text h = h.within
 spans_within bad n text h = omega (arith, h.1)
 
--- what is known of the tokens so far, after one more
+-- what is known of the tokens that were read, after one more
 pub one_more : (whole : List ℕ) (out : List Lexeme) (l : Lexeme) (at n : ℕ) (text : List ℕ)
     → ((rest : List Placed) → AreTokens at (drop at text) rest → AreTokens 0 whole (map seen out ++ rest))
     → at < length text → l.at ≡ at → Spans (seen l).token n (take (length text - at) (drop at text))

@@ -36,7 +36,7 @@ token_begins (sign s) n text within is =
     (λ space. false≢true (sym (first_byte s).2 ∙ ap (λ b. eqb b 32) (sym (front_byte s n text is)) ∙ eq-eqb _ 32 space))
 token_begins bad n text within is = absurd is
 
--- either a token of so many bytes, or none
+-- a token of this many bytes, or none
 abbrev Either : Token → ℕ → List ℕ → Type 0
 Either t n text = IsLongest t n text ⊎ ((t ≡ bad) × BeginsNone text × (n ≡ length text))
 
@@ -68,7 +68,7 @@ one_token (sign s) (sign r) n text a b = let same : Some s ≡ Some r = sym (rea
 one_token (sign s) bad n text a b = absurd b
 one_token bad u n text a b = absurd a
 
--- one token of one length stands in front
+-- a text begins with one token of one length
 one_front : (t u : Token) (n m : ℕ) (text : List ℕ) → Spans t n text → Spans u m text → (t ≡ u) × (n ≡ m)
 one_front t u n m text first second =
     ⊎_elim
@@ -87,7 +87,7 @@ token_at from text p gap n next =
     let begins = spans_begins p.token n (drop gap text) next.token in
     (omega (arith, begins.some, length-drop gap text), λ space. begins.no_space (get_or-drop gap text 0 0 ∙ ap (λ k. get_or text k 0) (add-zero gap) ∙ space))
 
--- the first token doesn't stand among the spaces before the second
+-- the first token isn't among the spaces before the second
 not_before : (from : ℕ) (text : List ℕ) (p q : Placed) (gap n gap' n' : ℕ) → Follows from text p gap n → Follows from text q gap' n' → gap < gap' → ⊥
 not_before from text p q gap n gap' n' first second before =
     (token_at from text p gap n first).1

@@ -6,12 +6,12 @@ use Rattle.ent_types.specs.Names.{is_name_start, is_name_byte}
 use Rattle.expr_tokens.specs.declared.sign.Sign.{Sign}
 use Rattle.expr_tokens.specs.Tokens.{Token, word, number, sign, bad, Placed, number_value, pair_of, single_of}
 
--- the token in front of a text, and how many bytes it takes behind its first
+-- the first token of a text, and how many bytes it takes after its first one
 pub record Front : Type 0 where
   pub token : Token
   pub more : ℕ
 
--- a first byte, and those behind it that belong to it
+-- a first byte, and the bytes after it that belong to its token
 abbrev pub run_front : (List ℕ → Token) → (ℕ → Bool) → ℕ → List ℕ → Front
 run_front make belongs b bytes = record { token = make (b ∷ take_while belongs bytes); more = prefix_len belongs bytes }
 

@@ -1,4 +1,4 @@
--- What the code's own tokens stand for.
+-- The definitions' token for each token of the code.
 use Rattle.std.specs.Prelude.{ℕ, Bool}
 use Rattle.std.specs.Char.{is_ascii_digit}
 use Rattle.ent_types.specs.Names.{is_name_byte}

@@ -29,7 +29,7 @@ spelling GreaterEqual = codes ">="
 spelling And = codes "&&"
 spelling Or = codes "||"
 
--- a token, apart from where it stands
+-- a token, without its place
 pub data Token : Type 0 where
   word : List ℕ → Token
   number : ℕ → Token
@@ -88,7 +88,7 @@ Spans (number v) n text = IsLongest (number v) n text
 Spans (sign s) n text = IsLongest (sign s) n text
 Spans bad n text = BeginsNone text × (n ≡ length text)
 
--- the token p, of n bytes, stands after `gap` spaces in a text that begins at the place `from`
+-- the token p, of n bytes, follows `gap` spaces in a text that begins at the place `from`
 pub record Follows (from : ℕ) (text : List ℕ) (p : Placed) (gap n : ℕ) : Type 0 where
   pub within : gap ≤ length text
   pub spaces : All IsSpace (take gap text)
@@ -138,7 +138,7 @@ abbrev pub IsLongestSign : Sign → ℕ → List ℕ → Type 0
 IsLongestSign s n text =
     (n ≤ length text) × (take n text ≡ spelling s) × ((m : ℕ) (other : Sign) → m ≤ length text → take m text ≡ spelling other → m ≤ n)
 
--- no sign stands in front
+-- no sign begins the text
 abbrev pub BeginsNoSign : List ℕ → Type 0
 BeginsNoSign text = (m : ℕ) (other : Sign) → m ≤ length text → take m text ≡ spelling other → ⊥
 

@@ -14,7 +14,7 @@ use std::alloc::Global;
 /// The value of a number that is too large.
 const TOO_LARGE: u64 = 1 << 63;
 
-/// A token of any number of bytes goes on with bytes of one kind.
+/// The kind of the bytes that a name or a number goes on with.
 #[derive(Clone, Copy, Debug, PartialEq, Eq)]
 enum Kind {
     Word,

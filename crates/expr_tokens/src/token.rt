@@ -1,4 +1,4 @@
-//! Tokens, and where they stand.
+//! Tokens, and their places in a text.
 use crate::Sign;
 
 /// A token of a text.
@@ -6,11 +6,11 @@ use crate::Sign;
 pub enum Token<'a> {
     /// A name: an ASCII letter or `_`, then letters, digits or `_`, of any length.
     Word(&'a [u8]),
-    /// A number in decimal digits. A number above 9223372036854775807 stands here as 9223372036854775808.
+    /// A number in decimal digits. A number above 9223372036854775807 is 9223372036854775808 here.
     Number(u64),
     /// A sign.
     Sign(Sign),
-    /// No token begins here: the text isn't read any further.
+    /// No token begins here. The rest of the text isn't read.
     Bad,
 }
 

@@ -76,6 +76,21 @@ pub(crate) fn push_ref(
     }
 }
 
+/// Appends the word of a call with its parenthesis, and the reference that is its first argument.
+fn open_call(
+    text: &mut String,
+    registry: &Registry,
+    word: &str,
+    r: &RefExpr,
+) -> Result<(), AllocError>
+    requires { is_printable_ref registry.now r.now ≡ true }
+    ensures text { OnOk result (string_bytes text.new ≡ string_bytes text.old ++ (word.now ++ ref_text registry.now r.now)) }
+    ensures spelled { OnOk result (is_spelled_ref registry.now r.now ≡ true) }
+{
+    text.push_str(word)?;
+    push_ref(text, registry, r)
+}
+
 /// Appends the field of another entity.
 pub(crate) fn push_get(
     text: &mut String,
@@ -90,8 +105,7 @@ pub(crate) fn push_get(
     ensures from { OnOk result (is_spelled_ref registry.now from.now ≡ true) }
     ensures field { OnOk result (is_named_field registry.now ty field ≡ true) }
 {
-    text.push_str("get(")?;
-    push_ref(text, registry, from)?;
+    open_call(text, registry, "get(", from)?;
     text.push_str(", ")?;
     push_field(text, registry, ty, field)?;
     text.push_str(")")
@@ -107,8 +121,7 @@ pub(crate) fn push_alive(
     ensures text { OnOk result (string_bytes text.new ≡ string_bytes text.old ++ (codes "alive(" ++ (ref_text registry.now r.now ++ codes ")"))) }
     ensures spelled { OnOk result (is_spelled_ref registry.now r.now ≡ true) }
 {
-    text.push_str("alive(")?;
-    push_ref(text, registry, r)?;
+    open_call(text, registry, "alive(", r)?;
     text.push_str(")")
 }
 
@@ -125,8 +138,7 @@ pub(crate) fn push_has(
     ensures from { OnOk result (is_spelled_ref registry.now r.now ≡ true) }
     ensures ty { OnOk result (is_named_type registry.now ty ≡ true) }
 {
-    text.push_str("has(")?;
-    push_ref(text, registry, r)?;
+    open_call(text, registry, "has(", r)?;
     text.push_str(", ")?;
     push_type(text, registry, ty)?;
     text.push_str(")")
@@ -145,8 +157,7 @@ pub(crate) fn push_same(
     ensures left { OnOk result (is_spelled_ref registry.now r.now ≡ true) }
     ensures right { OnOk result (is_spelled_ref registry.now q.now ≡ true) }
 {
-    text.push_str("same(")?;
-    push_ref(text, registry, r)?;
+    open_call(text, registry, "same(", r)?;
     text.push_str(", ")?;
     push_ref(text, registry, q)?;
     text.push_str(")")

@@ -18,7 +18,7 @@ pub(crate) fn variable_word(variable: Variable) -> &'static str
     }
 }
 
-/// What stands before the operand of a sign.
+/// Returns what precedes the operand of a sign.
 pub(crate) fn sign_opening(op: UnaryOp) -> &'static str
     ensures { result.now ≡ printed.sign_opening op }
 {
@@ -28,7 +28,7 @@ pub(crate) fn sign_opening(op: UnaryOp) -> &'static str
     }
 }
 
-/// What stands before the first of two operands.
+/// Returns what precedes the first of two operands.
 pub(crate) fn opening(op: BinaryOp) -> &'static str
     ensures { result.now ≡ printed.opening op }
 {
@@ -39,7 +39,7 @@ pub(crate) fn opening(op: BinaryOp) -> &'static str
     }
 }
 
-/// What stands between two operands.
+/// Returns what separates two operands.
 pub(crate) fn between(op: BinaryOp) -> &'static str
     ensures { result.now ≡ printed.between op }
 {

@@ -1,6 +1,6 @@
 use Rattle.std.proofs.Common.{arith}
 use Rattle.std.proofs.lemmas.Result.{MatchResult-weaker, err_from_is_err_and}
-use Rattle.expr_machine.specs.Expecting.{symbols}
+use Rattle.expr_steps.specs.Expecting.{symbols}
 use Rattle.expr_machine.proofs.TokenSteps.{begun, next_at, refused_at, ran, ends}
 use Rattle.expr_machine.proofs.read.read_tokens.Goals as goal
 

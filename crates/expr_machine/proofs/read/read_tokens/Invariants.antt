@@ -1,5 +1,5 @@
 use Rattle.std.proofs.Common.{[]}
-use Rattle.expr_machine.specs.Expecting.{symbols}
+use Rattle.expr_steps.specs.Expecting.{symbols}
 use Rattle.expr_machine.proofs.TokenSteps.{StandsAt}
 use Rattle.expr_machine.proofs.read.read_tokens.Given as goal
 

@@ -1,0 +1,4 @@
+pub mod Passing
+pub mod Reducing
+pub mod Tails
+pub mod Things
