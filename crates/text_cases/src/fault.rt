@@ -1,6 +1,7 @@
 //! What is wrong with a table of cases.
 
 use ent_types::{Memory, RegistryFault};
+use std::alloc::{AllocError, AllocFailed};
 use thiserror::Error;
 
 /// Why a line of the table isn't taken.
@@ -37,6 +38,18 @@ pub enum LineFault {
 
 impl From<Memory> for LineFault {
     fn from(_: Memory) -> LineFault {
+        LineFault::Memory
+    }
+}
+
+impl From<AllocError> for LineFault {
+    fn from(_: AllocError) -> LineFault {
+        LineFault::Memory
+    }
+}
+
+impl<T: Drop> From<AllocFailed<T>> for LineFault {
+    fn from(_: AllocFailed<T>) -> LineFault {
         LineFault::Memory
     }
 }
