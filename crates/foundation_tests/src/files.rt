@@ -4,9 +4,8 @@ use ent_io::{
     read_whole,
 };
 use std::alloc::{AllocError, Global};
-use std::fs;
 use std::fs::Files;
-use std::io;
+use std::{fs, io};
 
 /// Reads that give a whole file: the name, the limit, whether a call gives one byte, the call that fails, and the
 /// bytes. No call has the number 0.
@@ -192,8 +191,13 @@ fn has_status(end: End, wanted: Status) -> bool {
 
 #[test]
 fn an_end_of_a_read_is_a_missing_file_or_a_status(rt: HostRuntime) {
-    assert!(rt; is_missing(ReadEnd::Absent, Missing::Absent) & is_missing(ReadEnd::TooLong, Missing::TooLong));
-    assert!(rt; ends_as(ReadEnd::Fault, Status::ReadFault) & ends_as(ReadEnd::Memory, Status::Memory));
+    assert!(rt;
+        is_missing(ReadEnd::Absent, Missing::Absent)
+            & is_missing(ReadEnd::TooLong, Missing::TooLong)
+    );
+    assert!(rt;
+        ends_as(ReadEnd::Fault, Status::ReadFault) & ends_as(ReadEnd::Memory, Status::Memory)
+    );
     assert!(rt; has_status(End::WriteFault, Status::WriteFault));
     NoGate.reach(1000);
 }
@@ -204,7 +208,13 @@ const FILE: &str = "folder_store_test_file";
 fn reads_real<R: Files + Drop>(rt: &R, alloc: Global, bytes: &[u8]) -> bool {
     let mut store = FolderStore::new(rt, alloc);
     gives(alloc, &mut store, FILE, bytes.len(), bytes)
-        & ends(alloc, &mut store, FILE, bytes.len().saturating_sub(1), ReadEnd::TooLong)
+        & ends(
+            alloc,
+            &mut store,
+            FILE,
+            bytes.len().saturating_sub(1),
+            ReadEnd::TooLong,
+        )
 }
 
 fn misses_real<R: Files + Drop>(rt: &R, alloc: Global) -> bool {

@@ -84,8 +84,11 @@ fn is_buffer(registry: &Registry, ty: u16, is: bool) -> bool {
 
 /// `true` if the questions by kind have the answers that belong to the kind.
 fn agrees(registry: &Registry, ty: u16, kind: Kind) -> bool {
-    is_column(registry, ty, (kind == Kind::Plain) | (kind == Kind::Cleanup))
-        & is_shared(registry, ty, kind == Kind::Shared)
+    is_column(
+        registry,
+        ty,
+        (kind == Kind::Plain) | (kind == Kind::Cleanup),
+    ) & is_shared(registry, ty, kind == Kind::Shared)
         & is_cleanup(registry, ty, kind == Kind::Cleanup)
         & is_buffer(registry, ty, kind == Kind::Buffer)
 }

@@ -47,13 +47,7 @@ fn has_text(out: &MemorySink, text: &[u8]) -> bool {
     out.text() == text
 }
 
-fn writes_so(
-    alloc: Global,
-    by_one: bool,
-    failing: u64,
-    text: &[u8],
-    stop: Option<usize>,
-) -> bool {
+fn writes_so(alloc: Global, by_one: bool, failing: u64, text: &[u8], stop: Option<usize>) -> bool {
     match sink(alloc, by_one, failing) {
         Ok(mut out) => {
             writes(&mut out, b"", None) & writes(&mut out, b"abc", stop) & has_text(&out, text)

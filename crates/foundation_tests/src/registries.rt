@@ -117,7 +117,13 @@ fn a_type_is_found_by_its_name(rt: HostRuntime) {
 
 fn refuses_early(alloc: Global, registry: &mut Registry) -> bool {
     answers(alloc, registry, b"Prefab", 65, Err(RegistryFault::TooWide))
-        & answers(alloc, registry, b"Prefab", 64, Err(RegistryFault::Duplicate))
+        & answers(
+            alloc,
+            registry,
+            b"Prefab",
+            64,
+            Err(RegistryFault::Duplicate),
+        )
 }
 
 /// `true` if the type `T` with three digits, of 64 fields, gets this number.
@@ -142,8 +148,13 @@ fn is_filled(alloc: Global, registry: &mut Registry) -> bool {
 }
 
 fn refuses_late(alloc: Global, registry: &mut Registry) -> bool {
-    answers(alloc, registry, b"Late", 1, Err(RegistryFault::TooManyTypes))
-        & answers(alloc, registry, b"T255", 1, Err(RegistryFault::Duplicate))
+    answers(
+        alloc,
+        registry,
+        b"Late",
+        1,
+        Err(RegistryFault::TooManyTypes),
+    ) & answers(alloc, registry, b"T255", 1, Err(RegistryFault::Duplicate))
         & (registry.len() == 256)
 }
 

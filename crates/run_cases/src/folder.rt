@@ -155,11 +155,7 @@ fn copy_files(
     Ok(copies)
 }
 
-fn copy_file(
-    alloc: Global,
-    name: &str,
-    bytes: &[u8],
-) -> Result<(String, Vec<u8>), AllocError> {
+fn copy_file(alloc: Global, name: &str, bytes: &[u8]) -> Result<(String, Vec<u8>), AllocError> {
     let name = String::from_str(alloc, name)?;
     let bytes = bytes.to_vec(alloc)?;
     Ok((name, bytes))

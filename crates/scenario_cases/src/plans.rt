@@ -46,7 +46,12 @@ fn print_numbers<R: Print>(rt: &R, scenario: &Scenario) -> io::Result<()> {
     let entity_version = scenario.first_entity_version;
     println!(rt; "frames={frames} versions={system_version},{entity_version}")?;
     print_types(rt, scenario.registry.len(), scenario.spawn.len())?;
-    print_systems(rt, scenario.group.len(), scenario.system.len(), scenario.event.len())?;
+    print_systems(
+        rt,
+        scenario.group.len(),
+        scenario.system.len(),
+        scenario.event.len(),
+    )?;
     print_forms(rt, scenario.placed, scenario.unbuilt, is_built(scenario))
 }
 
@@ -54,12 +59,7 @@ fn print_types<R: Print>(rt: &R, types: usize, spawns: usize) -> io::Result<()> 
     print!(rt; "types={types} spawns={spawns}")
 }
 
-fn print_systems<R: Print>(
-    rt: &R,
-    groups: usize,
-    systems: usize,
-    events: usize,
-) -> io::Result<()> {
+fn print_systems<R: Print>(rt: &R, groups: usize, systems: usize, events: usize) -> io::Result<()> {
     println!(rt; " groups={groups} systems={systems} events={events}")
 }
 
@@ -144,12 +144,7 @@ fn print_names<R: Print>(rt: &R, registry: &Registry, types: &TypeSet) -> Result
 }
 
 /// Prints a mark and the name of a type.
-fn print_name<R: Print>(
-    rt: &R,
-    registry: &Registry,
-    mark: &str,
-    ty: TypeId,
-) -> Result<(), Fault> {
+fn print_name<R: Print>(rt: &R, registry: &Registry, mark: &str, ty: TypeId) -> Result<(), Fault> {
     if !registry.knows(ty) {
         return Err(Fault::Plan);
     }

@@ -192,8 +192,11 @@ fn moves_one(table: &mut EntityTable, first: Place, second: Place) -> bool {
 
 fn row_moves(alloc: Global) -> bool {
     let mut table = EntityTable::new(alloc, 1);
-    moves_one(&mut table, Place { block: 0, row: 0 }, Place { block: 2, row: 5 })
-        & is_at(&table, Entity::NULL, None)
+    moves_one(
+        &mut table,
+        Place { block: 0, row: 0 },
+        Place { block: 2, row: 5 },
+    ) & is_at(&table, Entity::NULL, None)
 }
 
 #[test]

@@ -67,7 +67,13 @@ fn releases(table: &mut SharedTable, id: SharedId, holds: u64) -> bool {
 }
 
 /// `true` if these numbers of a type get another id.
-fn differs(alloc: Global, table: &mut SharedTable, first: SharedId, ty: u16, numbers: &[i64]) -> bool {
+fn differs(
+    alloc: Global,
+    table: &mut SharedTable,
+    first: SharedId,
+    ty: u16,
+    numbers: &[i64],
+) -> bool {
     match intern(alloc, table, ty, numbers) {
         Ok(id) => (id != first) & !are_equal(table, first, id),
         Err(_) => false,
@@ -150,7 +156,11 @@ fn a_released_id_is_used_again(rt: HostRuntime) {
 }
 
 /// Interns the lists [0] to [199].
-fn intern_many(alloc: Global, table: &mut SharedTable, ids: &mut Vec<SharedId>) -> Result<(), Memory> {
+fn intern_many(
+    alloc: Global,
+    table: &mut SharedTable,
+    ids: &mut Vec<SharedId>,
+) -> Result<(), Memory> {
     for number in 0..200 {
         let id = intern(alloc, table, 3, &[number])?;
         ids.push(id)?;

@@ -123,12 +123,7 @@ fn ends_in_nine(machine: &mut Machine<Digits<'_>>, choices: u32) -> bool {
 }
 
 /// `true` if nine steps end both workers of new items, which show their digits in these cells.
-fn all_run<'a>(
-    alloc: Global,
-    first: &'a Cell<u64>,
-    second: &'a Cell<u64>,
-    choices: u32,
-) -> bool {
+fn all_run<'a>(alloc: Global, first: &'a Cell<u64>, second: &'a Cell<u64>, choices: u32) -> bool {
     match two_of_each(alloc, first, second, None) {
         Ok(mut machine) => ends_in_nine(&mut machine, choices),
         Err(_) => false,

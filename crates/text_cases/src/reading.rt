@@ -5,8 +5,8 @@ ghost use Rattle.text_cases.specs.Claims.{Claims};
 use crate::answer::{Answer, told};
 use crate::fault::LineFault;
 use expr_read::{
-    Assign, CommandText, Expr, ExprFault, RefExpr, Scope, Switch, read_assign, read_command, read_expr,
-    read_ref, read_switch,
+    Assign, CommandText, Expr, ExprFault, RefExpr, Scope, Switch, read_assign, read_command,
+    read_expr, read_ref, read_switch,
 };
 use std::alloc::Global;
 use std::fmt::Debug;

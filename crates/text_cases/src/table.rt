@@ -110,12 +110,7 @@ fn is_of_one_text(word: &str) -> bool {
 }
 
 /// Returns the result of a case that has a text alone.
-fn try_one_text(
-    alloc: Global,
-    word: &str,
-    text: &str,
-    scope: &Scope,
-) -> Result<String, LineFault> {
+fn try_one_text(alloc: Global, word: &str, text: &str, scope: &Scope) -> Result<String, LineFault> {
     match word {
         "value" => value_text(alloc, text, scope),
         "entity" => entity_text(alloc, text, scope),

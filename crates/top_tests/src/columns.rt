@@ -117,9 +117,7 @@ fn all_fill_blocks(
 }
 
 fn are_cleared(world: &PlainWorld) -> bool {
-    begins_with(world, 1, 0, 0, 5)
-        & begins_with(world, 1, 0, 7, 0)
-        & begins_with(world, 1, 1, 1, 0)
+    begins_with(world, 1, 0, 0, 5) & begins_with(world, 1, 0, 7, 0) & begins_with(world, 1, 1, 1, 0)
 }
 
 /// `true` if a field without a value is 0, also in a later block.
