@@ -33,7 +33,7 @@ fn main(rt: HostRuntime) -> io::Result<ExitCode> {
 }
 
 /// Does the cases of the table's file. `false` if one can't be done.
-fn do_file<R: Files + Print + AllocGlobal + Threads + Wait>(rt: &R) -> io::Result<bool> {
+fn do_file<R: Files + Print + Eprint + AllocGlobal + Threads + Wait>(rt: &R) -> io::Result<bool> {
     match fs::read_to_string(rt, TABLE) {
         Ok(text) => do_text(rt, text.as_str()),
         Err(error) => {
@@ -44,7 +44,7 @@ fn do_file<R: Files + Print + AllocGlobal + Threads + Wait>(rt: &R) -> io::Resul
 }
 
 /// Does the cases of a table. `false` if one can't be done, which is told on standard error.
-fn do_text<R: Print + AllocGlobal + Threads + Wait>(rt: &R, text: &str) -> io::Result<bool> {
+fn do_text<R: Print + Eprint + AllocGlobal + Threads + Wait>(rt: &R, text: &str) -> io::Result<bool> {
     match table::do_table(rt, text) {
         Ok(()) => Ok(true),
         Err(stop) => {

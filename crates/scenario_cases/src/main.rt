@@ -40,19 +40,19 @@ fn main(rt: HostRuntime) -> io::Result<ExitCode> {
 }
 
 /// Tries each scenario whose outcome is printed. `false` if one can't be tried.
-fn try_outcomes<R: Files + Print + AllocGlobal>(rt: &R) -> io::Result<bool> {
+fn try_outcomes<R: Files + Print + Eprint + AllocGlobal>(rt: &R) -> io::Result<bool> {
     let text = fs::read_to_string(rt, SCENARIOS)?;
     is_tried(rt, SCENARIOS, print_outcomes(rt, text.as_str()))
 }
 
 /// Tries each scenario whose plan is printed. `false` if one can't be tried.
-fn try_plans<R: Files + Print + AllocGlobal>(rt: &R) -> io::Result<bool> {
+fn try_plans<R: Files + Print + Eprint + AllocGlobal>(rt: &R) -> io::Result<bool> {
     let text = fs::read_to_string(rt, PLANS)?;
     is_tried(rt, PLANS, print_plans(rt, text.as_str()))
 }
 
 /// `true` if a file was tried whole. A fault is told on standard error.
-fn is_tried<R: Print>(rt: &R, file: &str, tried: Result<(), Fault>) -> io::Result<bool> {
+fn is_tried<R: Eprint>(rt: &R, file: &str, tried: Result<(), Fault>) -> io::Result<bool> {
     match tried {
         Ok(()) => Ok(true),
         Err(fault) => {

@@ -38,7 +38,7 @@ fn main(rt: HostRuntime) -> io::Result<ExitCode> {
 }
 
 /// Tries the table's file, and returns the status.
-fn try_file<R: Files + Print + AllocGlobal>(rt: &R) -> io::Result<u8> {
+fn try_file<R: Files + Print + Eprint + AllocGlobal>(rt: &R) -> io::Result<u8> {
     let text = fs::read_to_string(rt, TABLE)?;
     match table::try_table(rt.alloc(), text.as_str()) {
         Ok(outcomes) => report(rt, outcomes.as_slice()),
