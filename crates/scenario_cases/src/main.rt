@@ -41,14 +41,24 @@ fn main(rt: HostRuntime) -> io::Result<ExitCode> {
 
 /// Tries each scenario whose outcome is printed. `false` if one can't be tried.
 fn try_outcomes<R: Files + Print + Eprint + AllocGlobal>(rt: &R) -> io::Result<bool> {
-    let text = fs::read_to_string(rt, SCENARIOS)?;
-    is_tried(rt, SCENARIOS, print_outcomes(rt, text.as_str()))
+    match fs::read_to_string(rt, SCENARIOS) {
+        Ok(text) => is_tried(rt, SCENARIOS, print_outcomes(rt, text.as_str())),
+        Err(error) => is_unread(rt, SCENARIOS, error),
+    }
 }
 
 /// Tries each scenario whose plan is printed. `false` if one can't be tried.
 fn try_plans<R: Files + Print + Eprint + AllocGlobal>(rt: &R) -> io::Result<bool> {
-    let text = fs::read_to_string(rt, PLANS)?;
-    is_tried(rt, PLANS, print_plans(rt, text.as_str()))
+    match fs::read_to_string(rt, PLANS) {
+        Ok(text) => is_tried(rt, PLANS, print_plans(rt, text.as_str())),
+        Err(error) => is_unread(rt, PLANS, error),
+    }
+}
+
+/// Says on standard error why a file isn't read, and returns `false`.
+fn is_unread<R: Eprint>(rt: &R, file: &str, error: io::Error) -> io::Result<bool> {
+    eprintln!(rt; "{file}: {error}")?;
+    Ok(false)
 }
 
 /// `true` if a file was tried whole. A fault is told on standard error.

@@ -29,7 +29,7 @@ const TABLE: &str = "texts.tsv";
 /// The status where some result isn't the expected one.
 const OTHERWISE: u8 = 1;
 
-/// The status where a line of the table isn't taken.
+/// The status where the table can't be read.
 const NO_TABLE: u8 = 2;
 
 fn main(rt: HostRuntime) -> io::Result<ExitCode> {
@@ -39,11 +39,21 @@ fn main(rt: HostRuntime) -> io::Result<ExitCode> {
 
 /// Tries the table's file, and returns the status.
 fn try_file<R: Files + Print + Eprint + AllocGlobal>(rt: &R) -> io::Result<u8> {
-    let text = fs::read_to_string(rt, TABLE)?;
-    match table::try_table(rt.alloc(), text.as_str()) {
+    match fs::read_to_string(rt, TABLE) {
+        Ok(text) => try_text(rt, text.as_str()),
+        Err(error) => {
+            eprintln!(rt; "{TABLE}: {error}")?;
+            Ok(NO_TABLE)
+        }
+    }
+}
+
+/// Tries a table, and returns the status.
+fn try_text<R: Print + Eprint + AllocGlobal>(rt: &R, text: &str) -> io::Result<u8> {
+    match table::try_table(rt.alloc(), text) {
         Ok(outcomes) => report(rt, outcomes.as_slice()),
         Err(fault) => {
-            eprintln!(rt; "{fault}")?;
+            eprintln!(rt; "{fault:?}")?;
             Ok(NO_TABLE)
         }
     }

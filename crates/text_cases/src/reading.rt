@@ -12,7 +12,7 @@ use std::alloc::Global;
 use std::fmt::Debug;
 
 /// The grammar's symbol that a text is read as.
-#[derive(Clone, Copy, Debug, PartialEq, Eq)]
+#[derive(Clone, Copy)]
 pub enum Sort {
     /// An expression.
     Expr,

@@ -11,7 +11,7 @@ use expr_read::{Scope, TextPlace};
 use std::alloc::Global;
 
 /// How a case ended.
-#[derive(Debug, Drop)]
+#[derive(Drop)]
 pub enum Outcome {
     /// The result is the expected one.
     AsExpected,
