@@ -44,7 +44,10 @@ fn do_file<R: Files + Print + Eprint + AllocGlobal + Threads + Wait>(rt: &R) -> 
 }
 
 /// Does the cases of a table. `false` if one can't be done, which is told on standard error.
-fn do_text<R: Print + Eprint + AllocGlobal + Threads + Wait>(rt: &R, text: &str) -> io::Result<bool> {
+fn do_text<R: Print + Eprint + AllocGlobal + Threads + Wait>(
+    rt: &R,
+    text: &str,
+) -> io::Result<bool> {
     match table::do_table(rt, text) {
         Ok(()) => Ok(true),
         Err(stop) => {
