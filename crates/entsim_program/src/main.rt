@@ -2,10 +2,14 @@
 //! what the command writes.
 #![tactic(auto)]
 
-use ent_io::{FolderStore, NoGate, SinkEnd, Status, StdSink};
+use ent_io::{FolderStore, NoGate, Sink, SinkEnd, Status, StdSink, Store};
+use std::alloc::Global;
 use std::env::{self, Env};
+use std::fs::Files;
 use std::io;
 use std::process::ExitCode;
+use std::sync::Wait;
+use std::thread::Threads;
 
 /// Returns the program's exit status.
 fn number(status: Status) -> u8 {
@@ -38,15 +42,37 @@ fn read_args<R: Env + AllocGlobal>(rt: &R) -> io::Result<Vec<String>> {
     }
 }
 
+/// Does the command over a store and a sink. It has no clause, so that the proofs below don't read those of the call.
+fn obey<R: Threads + Wait, S: Store, W: Sink>(
+    rt: &R,
+    alloc: Global,
+    words: &[String],
+    store: &mut S,
+    out: &mut W,
+) -> Status {
+    entsim::entsim(rt, alloc, words, store, out, &NoGate)
+}
+
+/// Does the command over the files of the current folder, and prints what it writes.
+fn obey_here<R: Files + Print + Threads + Wait + Drop>(
+    rt: &R,
+    alloc: Global,
+    words: &[String],
+) -> Status {
+    let mut store = FolderStore::new(rt, alloc);
+    match StdSink::new(alloc, io::writer(rt)) {
+        Ok(mut out) => {
+            let status = obey(rt, alloc, words, &mut store, &mut out);
+            settled(status, out.finish())
+        }
+        Err(_) => Status::Memory,
+    }
+}
+
 fn main(rt: HostRuntime) -> io::Result<ExitCode> {
-    let Ok(words) = read_args(&rt) else {
-        return Ok(ExitCode::from(number(Status::Memory)));
+    let status = match read_args(&rt) {
+        Ok(words) => obey_here(&rt, rt.alloc(), &words),
+        Err(_) => Status::Memory,
     };
-    let mut store = FolderStore::new(&rt, rt.alloc());
-    let Ok(mut out) = StdSink::new(rt.alloc(), io::writer(&rt)) else {
-        return Ok(ExitCode::from(number(Status::Memory)));
-    };
-    let status = entsim::entsim(&rt, rt.alloc(), &words, &mut store, &mut out, &NoGate);
-    let status = settled(status, out.finish());
     Ok(ExitCode::from(number(status)))
 }

@@ -1,19 +1,50 @@
 //! Kinds of fields and of types, points, and the words of skips.
 use ent_types::{FieldKind, Kind, Name, Point, Skip, fit};
 
+/// Kinds of fields, each with a value, and with what a field of the kind keeps of it.
+const KEPT: [(FieldKind, i64, i64); 7] = [
+    (FieldKind::I32, 2147483647, 2147483647),
+    (FieldKind::I32, 2147483648, -2147483648),
+    (FieldKind::I32, -2147483649, 2147483647),
+    (FieldKind::I32, 4294967301, 5),
+    (FieldKind::I32, -1, -1),
+    (FieldKind::I64, i64::MIN, i64::MIN),
+    (FieldKind::Ref, 5, 0),
+];
+
+/// Skips, each with its name.
+const SKIPS: [(Skip, &str); 6] = [
+    (Skip::NoEntity, "NoEntity"),
+    (Skip::NoComponent, "NoComponent"),
+    (Skip::TooLarge, "TooLarge"),
+    (Skip::Full, "Full"),
+    (Skip::NotEnableable, "NotEnableable"),
+    (Skip::TooLong, "TooLong"),
+];
+
+/// Bytes, and whether they are a name.
+const NAMES: [(&[u8], bool); 7] = [
+    (b"", false),
+    (b"_", true),
+    (b"a9_Z", true),
+    (b"9a", false),
+    (b"a-b", false),
+    (b"abcdefghijklmnopqrstuvwxyz_01234", true),
+    (b"abcdefghijklmnopqrstuvwxyz_012345", false),
+];
+
+fn all_are_kept(cases: &[(FieldKind, i64, i64)]) -> bool {
+    for (kind, value, kept) in cases {
+        if fit(*kind, *value) != *kept {
+            return false;
+        }
+    }
+    true
+}
+
 #[test]
 fn a_field_keeps_the_low_bits(rt: HostRuntime) {
-    for (kind, value, wanted) in [
-        (FieldKind::I32, 2147483647, 2147483647),
-        (FieldKind::I32, 2147483648, -2147483648),
-        (FieldKind::I32, -2147483649, 2147483647),
-        (FieldKind::I32, 4294967301, 5),
-        (FieldKind::I32, -1, -1),
-        (FieldKind::I64, i64::MIN, i64::MIN),
-        (FieldKind::Ref, 5, 0),
-    ] {
-        assert!(rt; fit(kind, value) == wanted);
-    }
+    assert!(rt; all_are_kept(&KEPT));
 }
 
 fn fields_have_sizes() -> bool {
@@ -40,38 +71,49 @@ fn kinds_have_their_sizes_and_columns(rt: HostRuntime) {
     assert!(rt; switches_are_known());
 }
 
+fn points_rise() -> bool {
+    (Point::BeginInitialization < Point::EndInitialization)
+        & (Point::EndInitialization < Point::BeginSimulation)
+        & (Point::EndSimulation < Point::BeginPresentation)
+}
+
 #[test]
 fn points_are_in_the_order_of_a_frame(rt: HostRuntime) {
-    assert!(rt; Point::BeginInitialization < Point::EndInitialization);
-    assert!(rt; Point::EndInitialization < Point::BeginSimulation);
-    assert!(rt; Point::EndSimulation < Point::BeginPresentation);
+    assert!(rt; points_rise());
+}
+
+fn is_named(skip: Skip, name: &str) -> bool {
+    skip.name() == name
+}
+
+fn all_are_named(cases: &[(Skip, &str)]) -> bool {
+    for (skip, name) in cases {
+        if !is_named(*skip, name) {
+            return false;
+        }
+    }
+    true
 }
 
 #[test]
 fn a_skip_is_printed_by_its_name(rt: HostRuntime) {
-    for (skip, wanted) in [
-        (Skip::NoEntity, "NoEntity"),
-        (Skip::NoComponent, "NoComponent"),
-        (Skip::TooLarge, "TooLarge"),
-        (Skip::Full, "Full"),
-        (Skip::NotEnableable, "NotEnableable"),
-        (Skip::TooLong, "TooLong"),
-    ] {
-        assert!(rt; skip.name() == wanted);
+    assert!(rt; all_are_named(&SKIPS));
+}
+
+fn is_name(bytes: &[u8]) -> bool {
+    Name::of(bytes).is_some()
+}
+
+fn all_are_names(cases: &[(&[u8], bool)]) -> bool {
+    for (bytes, wanted) in cases {
+        if is_name(bytes) != *wanted {
+            return false;
+        }
     }
+    true
 }
 
 #[test]
 fn a_name_has_up_to_32_bytes(rt: HostRuntime) {
-    for (bytes, wanted) in [
-        (b"".as_slice(), false),
-        (b"_", true),
-        (b"a9_Z", true),
-        (b"9a", false),
-        (b"a-b", false),
-        (b"abcdefghijklmnopqrstuvwxyz_01234", true),
-        (b"abcdefghijklmnopqrstuvwxyz_012345", false),
-    ] {
-        assert!(rt; Name::of(bytes).is_some() == wanted);
-    }
+    assert!(rt; all_are_names(&NAMES));
 }

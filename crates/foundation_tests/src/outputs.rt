@@ -3,19 +3,39 @@ use ent_io::{End, MemorySink, Sink, SinkEnd, Status, StdSink, write_whole};
 use std::alloc::{AllocError, Global};
 use std::io;
 use std::io::Write;
-use std::test::Fail;
 
-/// An empty text. The call with this number fails; no call has the number 0.
-pub fn sink(alloc: Global, by_one: bool, failing: u64) -> Result<MemorySink, AllocError> {
-    let failing = vec![in alloc; failing]?;
+/// Whether a sink takes one byte a call, the number of the call that fails, the text after a write of `abc`, and the
+/// bytes after which the write stops, if it does. No call has the number 0.
+const WRITES: [(bool, u64, &[u8], Option<usize>); 6] = [
+    (false, 2, b"abc", None),
+    (false, 1, b"", Some(0)),
+    (true, 4, b"abc", None),
+    (true, 3, b"ab", Some(2)),
+    (true, 2, b"a", Some(1)),
+    (true, 1, b"", Some(0)),
+];
+
+/// The number of the call that fails, the text of a page then, and whether the page is whole.
+const PAGES: [(u64, &[u8], bool); 5] = [
+    (5, b"head\nx\ny\nfoot\n", true),
+    (4, b"head\nx\ny\n", false),
+    (3, b"head\nx\n", false),
+    (2, b"head\n", false),
+    (1, b"", false),
+];
+
+/// Returns an empty text. The call with this number fails.
+fn sink(alloc: Global, by_one: bool, failing: u64) -> Result<MemorySink, AllocError> {
+    let mut calls = Vec::new(alloc);
+    calls.push(failing)?;
     Ok(if by_one {
-        MemorySink::by_one(alloc, failing)
+        MemorySink::by_one(alloc, calls)
     } else {
-        MemorySink::new(alloc, failing)
+        MemorySink::new(alloc, calls)
     })
 }
 
-/// `true` if the piece is written whole, or stops after so many bytes by a failure.
+/// `true` if the piece is written whole, or stops after this many bytes by a failure.
 fn writes<W: Sink>(out: &mut W, piece: &[u8], stop: Option<usize>) -> bool {
     match write_whole(out, piece) {
         Ok(()) => stop.is_none(),
@@ -23,32 +43,31 @@ fn writes<W: Sink>(out: &mut W, piece: &[u8], stop: Option<usize>) -> bool {
     }
 }
 
-fn writes_so(
-    alloc: Global,
-    by_one: bool,
-    failing: u64,
-    text: &[u8],
-    stop: Option<usize>,
-) -> Result<bool, AllocError> {
-    let mut out = sink(alloc, by_one, failing)?;
-    let is_empty = writes(&mut out, b"", None);
-    let is_so = writes(&mut out, b"abc", stop);
-    Ok(is_empty & is_so & (out.text() == text))
+fn has_text(out: &MemorySink, text: &[u8]) -> bool {
+    out.text() == text
+}
+
+fn writes_so(alloc: Global, by_one: bool, failing: u64, text: &[u8], stop: Option<usize>) -> bool {
+    match sink(alloc, by_one, failing) {
+        Ok(mut out) => {
+            writes(&mut out, b"", None) & writes(&mut out, b"abc", stop) & has_text(&out, text)
+        }
+        Err(_) => false,
+    }
+}
+
+fn all_write_so(alloc: Global, cases: &[(bool, u64, &[u8], Option<usize>)]) -> bool {
+    for (by_one, failing, text, stop) in cases {
+        if !writes_so(alloc, *by_one, *failing, text, *stop) {
+            return false;
+        }
+    }
+    true
 }
 
 #[test]
-fn a_piece_is_written_whole(rt: HostRuntime) -> Result<(), Fail> {
-    for (by_one, failing, text, stop) in [
-        (false, 2, b"abc".as_slice(), None),
-        (false, 1, b"", Some(0)),
-        (true, 4, b"abc", None),
-        (true, 3, b"ab", Some(2)),
-        (true, 2, b"a", Some(1)),
-        (true, 1, b"", Some(0)),
-    ] {
-        assert!(rt; writes_so(rt.alloc(), by_one, failing, text, stop)?);
-    }
-    Ok(())
+fn a_piece_is_written_whole(rt: HostRuntime) {
+    assert!(rt; all_write_so(rt.alloc(), &WRITES));
 }
 
 /// Writes a head, two lines and a foot.
@@ -61,34 +80,44 @@ fn write_page<W: Sink>(out: &mut W) -> Result<Status, End> {
     Ok(Status::Done)
 }
 
-fn stops_so(
-    alloc: Global,
-    failing: u64,
-    text: &[u8],
-    wanted: Result<Status, End>,
-) -> Result<bool, AllocError> {
-    let mut out = sink(alloc, false, failing)?;
-    let is_so = write_page(&mut out) == wanted;
-    Ok(is_so & (out.text() == text))
+fn is_written(out: &mut MemorySink, whole: bool) -> bool {
+    match write_page(out) {
+        Ok(status) => whole & (status == Status::Done),
+        Err(end) => !whole & (end == End::WriteFault),
+    }
+}
+
+fn stops_so(alloc: Global, failing: u64, text: &[u8], whole: bool) -> bool {
+    match sink(alloc, false, failing) {
+        Ok(mut out) => is_written(&mut out, whole) & has_text(&out, text),
+        Err(_) => false,
+    }
+}
+
+fn all_stop_so(alloc: Global, cases: &[(u64, &[u8], bool)]) -> bool {
+    for (failing, text, whole) in cases {
+        if !stops_so(alloc, *failing, text, *whole) {
+            return false;
+        }
+    }
+    true
 }
 
 #[test]
-fn a_page_stops_in_a_line(rt: HostRuntime) -> Result<(), Fail> {
-    for (failing, text, wanted) in [
-        (5, b"head\nx\ny\nfoot\n".as_slice(), Ok(Status::Done)),
-        (4, b"head\nx\ny\n", Err(End::WriteFault)),
-        (3, b"head\nx\n", Err(End::WriteFault)),
-        (2, b"head\n", Err(End::WriteFault)),
-        (1, b"", Err(End::WriteFault)),
-    ] {
-        assert!(rt; stops_so(rt.alloc(), failing, text, wanted)?);
-    }
-    Ok(())
+fn a_page_stops_in_a_line(rt: HostRuntime) {
+    assert!(rt; all_stop_so(rt.alloc(), &PAGES));
 }
 
-fn is_printed(alloc: Global, text: &mut Vec<u8>) -> Result<bool, SinkEnd> {
-    let mut out = StdSink::new(alloc, text)?;
-    Ok(writes(&mut out, b"abc", None) & out.finish().is_ok())
+fn is_printed(alloc: Global, text: &mut Vec<u8>) -> bool {
+    match StdSink::new(alloc, text) {
+        Ok(mut out) => writes(&mut out, b"abc", None) & out.finish().is_ok(),
+        Err(_) => false,
+    }
+}
+
+fn prints(alloc: Global) -> bool {
+    let mut text = Vec::new(alloc);
+    is_printed(alloc, &mut text) & (text.as_slice() == b"abc".as_slice())
 }
 
 /// A writer that takes nothing.
@@ -106,16 +135,15 @@ impl Write for Closed {
 }
 
 /// `true` if the failure shows when the buffer is handed on, and not before.
-fn fails_at_the_end(alloc: Global) -> Result<bool, SinkEnd> {
-    let mut out = StdSink::new(alloc, Closed)?;
-    Ok(writes(&mut out, b"abc", None) & (out.finish() == Err(SinkEnd::Failed)))
+fn fails_at_the_end(alloc: Global) -> bool {
+    match StdSink::new(alloc, Closed) {
+        Ok(mut out) => writes(&mut out, b"abc", None) & (out.finish() == Err(SinkEnd::Failed)),
+        Err(_) => false,
+    }
 }
 
 #[test]
-fn standard_output_is_flushed_at_the_end(rt: HostRuntime) -> Result<(), Fail> {
-    let mut text = Vec::new(rt.alloc());
-    assert!(rt; is_printed(rt.alloc(), &mut text) == Ok(true));
-    assert!(rt; text.as_slice() == b"abc".as_slice());
-    assert!(rt; fails_at_the_end(rt.alloc()) == Ok(true));
-    Ok(())
+fn standard_output_is_flushed_at_the_end(rt: HostRuntime) {
+    assert!(rt; prints(rt.alloc()));
+    assert!(rt; fails_at_the_end(rt.alloc()));
 }

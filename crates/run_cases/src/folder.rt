@@ -1,6 +1,6 @@
 //! What a case finds: files, and calls that fail.
 
-use anyhow::{Context, Result};
+use crate::fault::Fault;
 use ent_io::{MemorySink, MemoryStore};
 use std::alloc::{AllocError, Global};
 use std::mem;
@@ -31,44 +31,60 @@ impl Folder {
     }
 
     /// Adds an empty file.
-    pub fn add_file(&mut self, alloc: Global, name: &str) -> Result<()> {
+    pub fn add_file(&mut self, alloc: Global, name: &str) -> Result<(), AllocError> {
         let name = String::from_str(alloc, name)?;
         self.files.push((name, Vec::new(alloc)))?;
         Ok(())
     }
 
     /// Adds a line to the newest file.
-    pub fn add_line(&mut self, line: &str) -> Result<()> {
-        let (_, bytes) = self.files.last_mut().context("a line of no file")?;
-        bytes.extend_from_slice(line.as_bytes())?;
-        bytes.push(b'\n')?;
-        Ok(())
+    pub fn add_line(&mut self, line: &str) -> Result<(), Fault> {
+        match self.files.last_mut() {
+            Some((_, bytes)) => Ok(push_line(bytes, line.as_bytes())?),
+            None => Err(Fault::NoFile),
+        }
     }
 
     /// Adds bytes to the newest file, two hexadecimal digits each.
-    pub fn add_bytes(&mut self, alloc: Global, digits: &str) -> Result<()> {
-        let more = hex::decode(alloc, digits)?;
-        let (_, bytes) = self.files.last_mut().context("bytes of no file")?;
-        bytes.extend_from_slice(&more)?;
-        Ok(())
+    pub fn add_bytes(&mut self, alloc: Global, digits: &str) -> Result<(), Fault> {
+        match hex::decode(alloc, digits) {
+            Ok(more) => self.extend(&more),
+            Err(_) => Err(Fault::Line),
+        }
+    }
+
+    /// Adds bytes to the newest file.
+    fn extend(&mut self, more: &[u8]) -> Result<(), Fault> {
+        match self.files.last_mut() {
+            Some((_, bytes)) => Ok(bytes.extend_from_slice(more)?),
+            None => Err(Fault::NoFile),
+        }
     }
 
     /// Makes the newest file longer, by the byte `#`.
-    pub fn fill(&mut self, length: &str) -> Result<()> {
-        let length = length.parse::<usize>()?;
-        let (_, bytes) = self.files.last_mut().context("a length of no file")?;
-        bytes.resize(length, b'#')?;
-        Ok(())
+    pub fn fill(&mut self, length: &str) -> Result<(), Fault> {
+        match length.parse::<usize>() {
+            Ok(length) => self.resize(length),
+            Err(_) => Err(Fault::Line),
+        }
     }
 
-    /// Says which calls of the next case's store fail.
-    pub fn fail_reads(&mut self, alloc: Global, numbers: &str) -> Result<()> {
+    /// Gives the newest file a length, by the byte `#` where it becomes longer.
+    fn resize(&mut self, length: usize) -> Result<(), Fault> {
+        match self.files.last_mut() {
+            Some((_, bytes)) => Ok(bytes.resize(length, b'#')?),
+            None => Err(Fault::NoFile),
+        }
+    }
+
+    /// Lets these calls of the next case's store fail.
+    pub fn fail_reads(&mut self, alloc: Global, numbers: &str) -> Result<(), Fault> {
         self.failing_reads = read_numbers(alloc, numbers)?;
         Ok(())
     }
 
-    /// Says which calls of the next case's sink fail.
-    pub fn fail_writes(&mut self, alloc: Global, numbers: &str) -> Result<()> {
+    /// Lets these calls of the next case's sink fail.
+    pub fn fail_writes(&mut self, alloc: Global, numbers: &str) -> Result<(), Fault> {
         self.failing_writes = read_numbers(alloc, numbers)?;
         Ok(())
     }
@@ -83,26 +99,48 @@ impl Folder {
         let files = copy_files(alloc, &self.files)?;
         let reads = mem::replace(&mut self.failing_reads, Vec::new(alloc));
         let writes = mem::replace(&mut self.failing_writes, Vec::new(alloc));
-        if mem::replace(&mut self.by_one, false) {
-            return Ok((
-                MemoryStore::by_one(files, reads),
-                MemorySink::by_one(alloc, writes),
-            ));
-        }
-        Ok((
-            MemoryStore::new(files, reads),
-            MemorySink::new(alloc, writes),
-        ))
+        let by_one = mem::replace(&mut self.by_one, false);
+        Ok((store(files, reads, by_one), sink(alloc, writes, by_one)))
     }
 }
 
+fn store(files: Vec<(String, Vec<u8>)>, failing: Vec<u64>, by_one: bool) -> MemoryStore {
+    if by_one {
+        MemoryStore::by_one(files, failing)
+    } else {
+        MemoryStore::new(files, failing)
+    }
+}
+
+fn sink(alloc: Global, failing: Vec<u64>, by_one: bool) -> MemorySink {
+    if by_one {
+        MemorySink::by_one(alloc, failing)
+    } else {
+        MemorySink::new(alloc, failing)
+    }
+}
+
+/// Adds a line with its end.
+fn push_line(bytes: &mut Vec<u8>, line: &[u8]) -> Result<(), AllocError> {
+    bytes.extend_from_slice(line)?;
+    bytes.push(b'\n')?;
+    Ok(())
+}
+
 /// Reads numbers with blanks between them.
-fn read_numbers(alloc: Global, text: &str) -> Result<Vec<u64>> {
+fn read_numbers(alloc: Global, text: &str) -> Result<Vec<u64>, Fault> {
     let mut numbers = Vec::new(alloc);
     for digits in text.split(' ') {
-        numbers.push(digits.parse::<u64>()?)?;
+        numbers.push(read_number(digits)?)?;
     }
     Ok(numbers)
+}
+
+fn read_number(digits: &str) -> Result<u64, Fault> {
+    match digits.parse::<u64>() {
+        Ok(number) => Ok(number),
+        Err(_) => Err(Fault::Line),
+    }
 }
 
 /// Copies files with their names.
@@ -112,8 +150,13 @@ fn copy_files(
 ) -> Result<Vec<(String, Vec<u8>)>, AllocError> {
     let mut copies = Vec::new(alloc);
     for (name, bytes) in files {
-        let name = String::from_str(alloc, name.as_str())?;
-        copies.push((name, bytes.as_slice().to_vec(alloc)?))?;
+        copies.push(copy_file(alloc, name.as_str(), bytes.as_slice())?)?;
     }
     Ok(copies)
+}
+
+fn copy_file(alloc: Global, name: &str, bytes: &[u8]) -> Result<(String, Vec<u8>), AllocError> {
+    let name = String::from_str(alloc, name)?;
+    let bytes = bytes.to_vec(alloc)?;
+    Ok((name, bytes))
 }

@@ -8,10 +8,10 @@
 #![tactic(auto)]
 
 mod case;
+mod fault;
 mod folder;
 mod table;
 
-use anyhow::{Context, Result};
 use std::process::ExitCode;
 use std::rt::Files;
 use std::sync::Wait;
@@ -25,17 +25,34 @@ const TABLE: &str = "cases.txt";
 const NOT_DONE: u8 = 2;
 
 fn main(rt: HostRuntime) -> io::Result<ExitCode> {
-    match do_file(&rt) {
-        Ok(()) => Ok(ExitCode::SUCCESS),
+    if do_file(&rt)? {
+        Ok(ExitCode::SUCCESS)
+    } else {
+        Ok(ExitCode::from(NOT_DONE))
+    }
+}
+
+/// Does the cases of the table's file. `false` if one can't be done.
+fn do_file<R: Files + Print + Eprint + AllocGlobal + Threads + Wait>(rt: &R) -> io::Result<bool> {
+    match fs::read_to_string(rt, TABLE) {
+        Ok(text) => do_text(rt, text.as_str()),
         Err(error) => {
-            eprintln!(rt; "{error:#}")?;
-            Ok(ExitCode::from(NOT_DONE))
+            eprintln!(rt; "{TABLE}: {error}")?;
+            Ok(false)
         }
     }
 }
 
-/// Does the cases of the table's file.
-fn do_file<R: Files + Print + AllocGlobal + Threads + Wait>(rt: &R) -> Result<()> {
-    let text = fs::read_to_string(rt, TABLE).context(TABLE)?;
-    table::do_table(rt, text.as_str())
+/// Does the cases of a table. `false` if one can't be done, which is told on standard error.
+fn do_text<R: Print + Eprint + AllocGlobal + Threads + Wait>(
+    rt: &R,
+    text: &str,
+) -> io::Result<bool> {
+    match table::do_table(rt, text) {
+        Ok(()) => Ok(true),
+        Err(stop) => {
+            eprintln!(rt; "{TABLE}: {stop:?}")?;
+            Ok(false)
+        }
+    }
 }

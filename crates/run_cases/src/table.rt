@@ -7,17 +7,34 @@
 //! text and the status, `words` the command and the status in one line.
 
 use crate::case::{do_case, do_words};
+use crate::fault::Fault;
 use crate::folder::Folder;
-use anyhow::{Context, Result, bail};
 use std::alloc::Global;
 use std::sync::Wait;
 use std::thread::Threads;
 
+/// A line that isn't done, numbered from 0, and why.
+#[derive(Clone, Copy, Debug)]
+pub struct Stop {
+    pub line: usize,
+    pub fault: Fault,
+}
+
 /// Does the cases of a table, in order.
-pub fn do_table<R: Print + AllocGlobal + Threads + Wait>(rt: &R, table: &str) -> Result<()> {
+pub fn do_table<R: Print + AllocGlobal + Threads + Wait>(rt: &R, table: &str) -> Result<(), Stop> {
     let mut folder = Folder::new(rt.alloc());
-    for (at, line) in table.lines().enumerate() {
-        do_line(rt, &mut folder, line).context(format_args!("line {at}, from 0"))?;
+    do_lines(rt, &mut folder, table)
+}
+
+fn do_lines<R: Print + AllocGlobal + Threads + Wait>(
+    rt: &R,
+    folder: &mut Folder,
+    table: &str,
+) -> Result<(), Stop> {
+    for (line, text) in table.lines().enumerate() {
+        if let Err(fault) = do_line(rt, folder, text) {
+            return Err(Stop { line, fault });
+        }
     }
     Ok(())
 }
@@ -27,14 +44,23 @@ fn do_line<R: Print + AllocGlobal + Threads + Wait>(
     rt: &R,
     folder: &mut Folder,
     line: &str,
-) -> Result<()> {
+) -> Result<(), Fault> {
     if let Some(text) = line.strip_prefix('|') {
         return folder.add_line(text);
     }
-    let (word, rest) = match line.split_once(' ') {
-        Some((word, rest)) => (word, Some(rest)),
-        None => (line, None),
-    };
+    match line.split_once(' ') {
+        Some((word, rest)) => do_word(rt, folder, word, Some(rest)),
+        None => do_word(rt, folder, line, None),
+    }
+}
+
+/// Does a case, or sets what the next cases find.
+fn do_word<R: Print + AllocGlobal + Threads + Wait>(
+    rt: &R,
+    folder: &mut Folder,
+    word: &str,
+    rest: Option<&str>,
+) -> Result<(), Fault> {
     match word {
         "" | "#" => Ok(()),
         "case" => do_case(rt, folder, rest),
@@ -44,7 +70,7 @@ fn do_line<R: Print + AllocGlobal + Threads + Wait>(
 }
 
 /// Sets what the next cases find.
-fn set(alloc: Global, folder: &mut Folder, word: &str, rest: &str) -> Result<()> {
+fn set(alloc: Global, folder: &mut Folder, word: &str, rest: &str) -> Result<(), Fault> {
     match word {
         "folder" => folder.clear(alloc),
         "file" => folder.add_file(alloc, rest)?,
@@ -53,7 +79,7 @@ fn set(alloc: Global, folder: &mut Folder, word: &str, rest: &str) -> Result<()>
         "reads" => folder.fail_reads(alloc, rest)?,
         "writes" => folder.fail_writes(alloc, rest)?,
         "by_one" => folder.move_by_one(),
-        _ => bail!("a line of no known sort"),
+        _ => return Err(Fault::Line),
     }
     Ok(())
 }

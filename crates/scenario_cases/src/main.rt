@@ -8,15 +8,13 @@
 //! The status is 0, or 2 if a file can't be read or memory runs out.
 #![tactic(auto)]
 
+mod fault;
+mod outcomes;
 mod plans;
 
-use anyhow::{Context, Result, bail};
+use fault::Fault;
+use outcomes::try_scenario;
 use plans::try_plan;
-use scenario_check::check;
-use scenario_laws::what_is_read_can_be_checked;
-use scenario_read::read_scenario;
-use scenario_record::{BadScenario, Cause, ScenarioFault};
-use std::alloc::Global;
 use std::process::ExitCode;
 use std::rt::Files;
 use std::{fs, io};
@@ -34,57 +32,56 @@ const BETWEEN: &str = "----\n";
 const NOT_TRIED: u8 = 2;
 
 fn main(rt: HostRuntime) -> io::Result<ExitCode> {
-    match try_files(&rt) {
-        Ok(()) => Ok(ExitCode::SUCCESS),
-        Err(error) => {
-            eprintln!(rt; "{error:#}")?;
-            Ok(ExitCode::from(NOT_TRIED))
+    if try_outcomes(&rt)? && try_plans(&rt)? {
+        Ok(ExitCode::SUCCESS)
+    } else {
+        Ok(ExitCode::from(NOT_TRIED))
+    }
+}
+
+/// Tries each scenario whose outcome is printed. `false` if one can't be tried.
+fn try_outcomes<R: Files + Print + Eprint + AllocGlobal>(rt: &R) -> io::Result<bool> {
+    match fs::read_to_string(rt, SCENARIOS) {
+        Ok(text) => is_tried(rt, SCENARIOS, print_outcomes(rt, text.as_str())),
+        Err(error) => is_unread(rt, SCENARIOS, error),
+    }
+}
+
+/// Tries each scenario whose plan is printed. `false` if one can't be tried.
+fn try_plans<R: Files + Print + Eprint + AllocGlobal>(rt: &R) -> io::Result<bool> {
+    match fs::read_to_string(rt, PLANS) {
+        Ok(text) => is_tried(rt, PLANS, print_plans(rt, text.as_str())),
+        Err(error) => is_unread(rt, PLANS, error),
+    }
+}
+
+/// Says on standard error why a file isn't read, and returns `false`.
+fn is_unread<R: Eprint>(rt: &R, file: &str, error: io::Error) -> io::Result<bool> {
+    eprintln!(rt; "{file}: {error}")?;
+    Ok(false)
+}
+
+/// `true` if a file was tried whole. A fault is told on standard error.
+fn is_tried<R: Eprint>(rt: &R, file: &str, tried: Result<(), Fault>) -> io::Result<bool> {
+    match tried {
+        Ok(()) => Ok(true),
+        Err(fault) => {
+            eprintln!(rt; "{file}: {fault:?}")?;
+            Ok(false)
         }
     }
 }
 
-/// Tries each scenario of both files.
-fn try_files<R: Files + Print + AllocGlobal>(rt: &R) -> Result<()> {
-    let scenarios = fs::read_to_string(rt, SCENARIOS).context(SCENARIOS)?;
-    for text in scenarios.as_str().split(BETWEEN) {
+fn print_outcomes<R: Print + AllocGlobal>(rt: &R, text: &str) -> Result<(), Fault> {
+    for text in text.split(BETWEEN) {
         try_scenario(rt, text)?;
     }
-    let plans = fs::read_to_string(rt, PLANS).context(PLANS)?;
-    for text in plans.as_str().split(BETWEEN) {
+    Ok(())
+}
+
+fn print_plans<R: Print + AllocGlobal>(rt: &R, text: &str) -> Result<(), Fault> {
+    for text in text.split(BETWEEN) {
         try_plan(rt, text)?;
-    }
-    Ok(())
-}
-
-/// Reads and checks a scenario, and prints what comes out.
-fn try_scenario<R: Print + AllocGlobal>(rt: &R, text: &str) -> Result<()> {
-    match read_and_check(rt.alloc(), text) {
-        Ok(()) => println!(rt; "ok")?,
-        Err(ScenarioFault::Bad(bad)) => print_fault(rt, &bad)?,
-        Err(ScenarioFault::Memory) => bail!("out of memory"),
-    }
-    Ok(())
-}
-
-/// Returns the first fault of a scenario, as it is read or checked.
-fn read_and_check(alloc: Global, text: &str) -> Result<(), ScenarioFault> {
-    what_is_read_can_be_checked();
-    let scenario = read_scenario(alloc, text.as_bytes())?;
-    check(alloc, &scenario)?;
-    Ok(())
-}
-
-/// Prints a fault with its place. A fault of the whole file has none.
-fn print_fault<R: Print>(rt: &R, bad: &BadScenario) -> Result<()> {
-    let cause = bad.cause.name();
-    if bad.cause == Cause::NotToml || bad.cause == Cause::NotBuilt {
-        println!(rt; "{cause}")?;
-        return Ok(());
-    }
-    let key = std::str::from_utf8(bad.key.as_slice()).context("a path that is no text")?;
-    match bad.at {
-        Some(at) => println!(rt; "{cause} key={key} at={at}")?,
-        None => println!(rt; "{cause} key={key}")?,
     }
     Ok(())
 }

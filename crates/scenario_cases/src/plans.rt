@@ -1,72 +1,100 @@
 //! The record of a scenario in numbers, and its plan.
-use anyhow::{Context, Result, bail};
-use ent_types::{Point, Registry, TypeSet};
+use crate::fault::Fault;
+use crate::outcomes::print_cause;
+use ent_types::{Point, Registry, TypeId, TypeSet};
 use scenario_check::{check, is_built};
 use scenario_laws::what_is_read_can_be_checked;
 use scenario_read::read_scenario;
 use scenario_record::{Access, Plan, Scenario, ScenarioFault, Step, SystemEntry};
 use std::alloc::Global;
+use std::io;
 
 /// Reads a scenario, and prints its numbers and its plan.
-pub(crate) fn try_plan<R: Print + AllocGlobal>(rt: &R, text: &str) -> Result<()> {
-    what_is_read_can_be_checked();
-    let scenario = read_scenario(rt.alloc(), text.as_bytes())?;
-    let plan = check(rt.alloc(), &scenario);
+pub(crate) fn try_plan<R: Print + AllocGlobal>(rt: &R, text: &str) -> Result<(), Fault> {
+    let (scenario, plan) = read_and_plan(rt.alloc(), text.as_bytes())?;
     print_numbers(rt, &scenario)?;
+    print_outcome(rt, &scenario, &plan)
+}
+
+/// Returns the scenario, and its plan or why it has none.
+fn read_and_plan(
+    alloc: Global,
+    bytes: &[u8],
+) -> Result<(Scenario, Result<Plan, ScenarioFault>), ScenarioFault> {
+    what_is_read_can_be_checked();
+    let scenario = read_scenario(alloc, bytes)?;
+    let plan = check(alloc, &scenario);
+    Ok((scenario, plan))
+}
+
+/// Prints the plan, or the cause of the first fault.
+fn print_outcome<R: Print>(
+    rt: &R,
+    scenario: &Scenario,
+    plan: &Result<Plan, ScenarioFault>,
+) -> Result<(), Fault> {
     match plan {
-        Ok(plan) => print_plan(rt, &scenario, &plan)?,
-        Err(ScenarioFault::Bad(bad)) => {
-            let cause = bad.cause.name();
-            println!(rt; "{cause}")?;
-        }
-        Err(ScenarioFault::Memory) => bail!("out of memory"),
+        Ok(plan) => print_plan(rt, scenario, plan),
+        Err(ScenarioFault::Bad(bad)) => Ok(print_cause(rt, bad.cause)?),
+        Err(ScenarioFault::Memory) => Err(Fault::Memory),
     }
-    Ok(())
 }
 
 /// Prints the numbers of a record, and whether it is of a form that is run.
-fn print_numbers<R: Print>(rt: &R, scenario: &Scenario) -> Result<()> {
+fn print_numbers<R: Print>(rt: &R, scenario: &Scenario) -> io::Result<()> {
     let (frames, system_version) = (scenario.frames, scenario.first_system_version);
     let entity_version = scenario.first_entity_version;
     println!(rt; "frames={frames} versions={system_version},{entity_version}")?;
-    let (types, spawns) = (scenario.registry.len(), scenario.spawn.len());
-    let (groups, systems) = (scenario.group.len(), scenario.system.len());
-    let events = scenario.event.len();
-    println!(rt;
-        "types={types} spawns={spawns} groups={groups} systems={systems} events={events}"
+    print_types(rt, scenario.registry.len(), scenario.spawn.len())?;
+    print_systems(
+        rt,
+        scenario.group.len(),
+        scenario.system.len(),
+        scenario.event.len(),
     )?;
-    let (placed, unbuilt, runs) = (scenario.placed, scenario.unbuilt, is_built(scenario));
-    println!(rt; "placed={placed} unbuilt={unbuilt} runs={runs}")?;
-    Ok(())
+    print_forms(rt, scenario.placed, scenario.unbuilt, is_built(scenario))
+}
+
+fn print_types<R: Print>(rt: &R, types: usize, spawns: usize) -> io::Result<()> {
+    print!(rt; "types={types} spawns={spawns}")
+}
+
+fn print_systems<R: Print>(rt: &R, groups: usize, systems: usize, events: usize) -> io::Result<()> {
+    println!(rt; " groups={groups} systems={systems} events={events}")
+}
+
+fn print_forms<R: Print>(rt: &R, placed: bool, unbuilt: bool, runs: bool) -> io::Result<()> {
+    println!(rt; "placed={placed} unbuilt={unbuilt} runs={runs}")
 }
 
 /// Prints the steps of a plan, and what each system touches.
-fn print_plan<R: Print + AllocGlobal>(rt: &R, scenario: &Scenario, plan: &Plan) -> Result<()> {
+fn print_plan<R: Print>(rt: &R, scenario: &Scenario, plan: &Plan) -> Result<(), Fault> {
     let systems = scenario.system.as_slice();
-    for step in plan.steps.as_slice() {
-        print_step(rt, systems, step)?;
-    }
-    for (system, access) in systems.iter().zip(plan.access.as_slice()) {
-        print_access(rt, &scenario.registry, system, access)?;
+    print_steps(rt, systems, plan.steps.as_slice())?;
+    print_accesses(rt, &scenario.registry, systems, plan.access.as_slice())
+}
+
+fn print_steps<R: Print>(rt: &R, systems: &[SystemEntry], steps: &[Step]) -> Result<(), Fault> {
+    for step in steps {
+        print_step(rt, systems, *step)?;
     }
     Ok(())
 }
 
 /// Prints a step of a frame.
-fn print_step<R: Print>(rt: &R, systems: &[SystemEntry], step: &Step) -> Result<()> {
-    match *step {
-        Step::Events => println!(rt; "events")?,
-        Step::Play(point) => {
-            let point = point_name(point);
-            println!(rt; "play {point}")?;
-        }
-        Step::Run(number) => {
-            let system = systems.get(number as usize).context("a system")?;
-            let name = system.name.as_str();
-            println!(rt; "run {name}")?;
-        }
+fn print_step<R: Print>(rt: &R, systems: &[SystemEntry], step: Step) -> Result<(), Fault> {
+    match step {
+        Step::Events => Ok(println!(rt; "events")?),
+        Step::Play(point) => Ok(println!(rt; "play {}", point_name(point))?),
+        Step::Run(number) => print_run(rt, systems, number as usize),
     }
-    Ok(())
+}
+
+fn print_run<R: Print>(rt: &R, systems: &[SystemEntry], number: usize) -> Result<(), Fault> {
+    match systems.get(number) {
+        Some(system) => Ok(println!(rt; "run {}", system.name.as_str())?),
+        None => Err(Fault::Plan),
+    }
 }
 
 /// Returns the word of a point in scenarios.
@@ -80,32 +108,45 @@ fn point_name(point: Point) -> &'static str {
     }
 }
 
-/// Prints what a system touches.
-fn print_access<R: Print + AllocGlobal>(
+/// Prints what each system touches.
+fn print_accesses<R: Print>(
     rt: &R,
     registry: &Registry,
-    system: &SystemEntry,
-    access: &Access,
-) -> Result<()> {
-    let name = system.name.as_str();
-    let reads = type_names(rt.alloc(), registry, &access.reads)?;
-    let writes = type_names(rt.alloc(), registry, &access.writes)?;
-    let named = type_names(rt.alloc(), registry, &access.named)?;
-    println!(rt; "{name} reads={reads} writes={writes} names={named}")?;
+    systems: &[SystemEntry],
+    accesses: &[Access],
+) -> Result<(), Fault> {
+    for (system, access) in systems.iter().zip(accesses) {
+        print!(rt; "{}", system.name.as_str())?;
+        print_access(rt, registry, access)?;
+    }
     Ok(())
 }
 
-/// Returns the names of types, with commas between them.
-fn type_names(alloc: Global, registry: &Registry, types: &TypeSet) -> Result<String> {
-    let mut names = String::new(alloc);
+/// Prints what a system touches.
+fn print_access<R: Print>(rt: &R, registry: &Registry, access: &Access) -> Result<(), Fault> {
+    print!(rt; " reads=")?;
+    print_names(rt, registry, &access.reads)?;
+    print!(rt; " writes=")?;
+    print_names(rt, registry, &access.writes)?;
+    print!(rt; " names=")?;
+    print_names(rt, registry, &access.named)?;
+    Ok(println!(rt)?)
+}
+
+/// Prints the names of types, with commas between them.
+fn print_names<R: Print>(rt: &R, registry: &Registry, types: &TypeSet) -> Result<(), Fault> {
+    let mut mark = "";
     for ty in types.iter() {
-        if usize::from(ty.0) >= registry.len() {
-            bail!("a type that isn't there");
-        }
-        if !names.is_empty() {
-            names.push(',')?;
-        }
-        names.push_str(registry.info(ty).name.as_str())?;
+        print_name(rt, registry, mark, ty)?;
+        mark = ",";
     }
-    Ok(names)
+    Ok(())
+}
+
+/// Prints a mark and the name of a type.
+fn print_name<R: Print>(rt: &R, registry: &Registry, mark: &str, ty: TypeId) -> Result<(), Fault> {
+    if !registry.knows(ty) {
+        return Err(Fault::Plan);
+    }
+    Ok(print!(rt; "{mark}{}", registry.info(ty).name.as_str())?)
 }

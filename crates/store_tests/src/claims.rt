@@ -1,11 +1,11 @@
 //! Claims that two to eight threads draw.
-ghost use Rattle.std.specs.Prelude.{◌≡◌, ◌+◌, ◌≤◌, true, length, IfOk};
+ghost use Rattle.std.specs.Prelude.{◌≡◌, ◌+◌, ◌≤◌, ◌<◌, ◌^◌, [], true, length, IfOk};
+ghost use Rattle.job_claims.specs.Views.{opened};
 ghost use Rattle.std.specs.Thread.{IsSync};
 
 use ent_types::Memory;
 use job_claims::{ClaimSeat, ClaimTable, Drawn};
 use std::alloc::{AllocError, Global};
-use std::test::Fail;
 use std::thread;
 use std::thread::Threads;
 
@@ -105,52 +105,107 @@ fn is_drained(
     more.is_empty() & others.is_empty()
 }
 
-fn two_seats_share(alloc: Global) -> Result<bool, Fail> {
-    let items = vec![in alloc; 10u32, 20, 30]?;
-    let (table, mut first) = ClaimTable::new(alloc, items)?;
-    let mut second = table.split(&mut first);
-    let is_first = draws(&table, &mut first, (0, 10));
-    let is_second = draws(&table, &mut second, (1, 20));
-    let is_third = draws(&table, &mut first, (2, 30));
-    Ok(is_first & is_second & is_third & is_drained(alloc, table, first, second))
+/// `true` if two seats draw the three pieces in turn.
+fn draw_in_turn(
+    table: &ClaimTable<u32>,
+    first: &mut ClaimSeat<u32>,
+    second: &mut ClaimSeat<u32>,
+) -> bool
+    requires { (first.old.table ≡ table.now) × (second.old.table ≡ table.now) }
+    ensures tables { (first.new.table ≡ table.now) × (second.new.table ≡ table.now) }
+    ensures first { first.new.view.weight ≡ first.old.view.weight }
+    ensures second { second.new.view.weight ≡ second.old.view.weight }
+{
+    draws(table, first, (0, 10)) & draws(table, second, (1, 20)) & draws(table, first, (2, 30))
+}
+
+fn seats_share(alloc: Global, items: Vec<u32>) -> bool
+    requires { length items.items < 2 ^ 32 }
+{
+    match ClaimTable::new(alloc, items) {
+        Ok((table, mut first)) => {
+            let mut second = table.split(&mut first);
+            let is_drawn = draw_in_turn(&table, &mut first, &mut second);
+            is_drawn & is_drained(alloc, table, first, second)
+        }
+        Err(_) => false,
+    }
+}
+
+fn two_seats_share(alloc: Global) -> bool {
+    match vec![in alloc; 10u32, 20, 30] {
+        Ok(items) => seats_share(alloc, items),
+        Err(_) => false,
+    }
 }
 
 #[test]
-fn two_seats_draw_three_pieces(rt: HostRuntime) -> Result<(), Fail> {
-    assert!(rt; two_seats_share(rt.alloc())?);
-    Ok(())
+fn two_seats_draw_three_pieces(rt: HostRuntime) {
+    assert!(rt; two_seats_share(rt.alloc()));
 }
 
-fn threads_share<R: Threads + Sync>(rt: &R, alloc: Global, threads: u64) -> Result<bool, Fail>
-    requires { threads ≤ 64 }
+/// Draws all pieces with so many threads.
+fn drained<R: Threads + Sync>(
+    rt: &R,
+    alloc: Global,
+    items: Vec<u32>,
+    threads: u64,
+) -> Result<Vec<(u32, u32)>, Memory>
+    requires few { threads ≤ 64 }
+    requires items { length items.items < 2 ^ 32 }
 {
-    let (table, first) = ClaimTable::new(alloc, multiples(alloc)?)?;
+    let (table, first) = ClaimTable::new(alloc, items)?;
     let (all, drawn) = drain_with(rt, alloc, &table, first, threads);
     table.close(all);
-    Ok(is_each_once(alloc, drawn)?)
+    Ok(drawn)
+}
+
+fn threads_share<R: Threads + Sync>(rt: &R, alloc: Global, threads: u64) -> bool
+    requires { threads ≤ 64 }
+{
+    match multiples(alloc) {
+        Ok(items) => match drained(rt, alloc, items, threads) {
+            Ok(drawn) => is_each_once(alloc, drawn) == Ok(true),
+            Err(_) => false,
+        },
+        Err(_) => false,
+    }
+}
+
+fn all_share<R: Threads + Sync>(rt: &R, alloc: Global) -> bool {
+    for threads in 2..9u64 {
+        if !threads_share(rt, alloc, threads) {
+            return false;
+        }
+    }
+    true
 }
 
 #[test]
-fn threads_draw_each_piece_once(rt: HostRuntime) -> Result<(), Fail> {
-    for threads in 2..9u64 {
-        assert!(rt; threads_share(&rt, rt.alloc(), threads)?);
-    }
-    Ok(())
+fn threads_draw_each_piece_once(rt: HostRuntime) {
+    assert!(rt; all_share(&rt, rt.alloc()));
 }
 
-/// Proved from the contracts alone: a table of no pieces ends at the first draw.
-fn no_piece_is_drawn(alloc: Global) -> Result<(), Memory> {
-    let none: Vec<u32> = Vec::new(alloc);
-    let (table, mut seat) = ClaimTable::new(alloc, none)?;
-    if let Drawn::Piece(_, _) = table.draw(&mut seat) {
+/// Proved from the contracts alone: where there are no pieces, the first draw ends the seat.
+fn no_piece_is_drawn(table: &ClaimTable<u32>, seat: &mut ClaimSeat<u32>)
+    requires own { seat.old.table ≡ table.now }
+    requires none { seat.old.view ≡ opened [] }
+    ensures own { seat.new.table ≡ table.now }
+    ensures ended { (seat.new.view.ended ≡ true) × (seat.new.view.weight ≡ 64) }
+{
+    if let Drawn::Piece(_, _) = table.draw(seat) {
         unreachable!();
     }
+}
+
+fn end_without_pieces(alloc: Global) -> Result<(), Memory> {
+    let (table, mut seat) = ClaimTable::new(alloc, Vec::new(alloc))?;
+    no_piece_is_drawn(&table, &mut seat);
     table.close(seat);
     Ok(())
 }
 
 #[test]
-fn a_table_of_no_pieces_ends(rt: HostRuntime) -> Result<(), Fail> {
-    no_piece_is_drawn(rt.alloc())?;
-    Ok(())
+fn a_table_of_no_pieces_ends(rt: HostRuntime) {
+    assert!(rt; end_without_pieces(rt.alloc()).is_ok());
 }

@@ -1,7 +1,6 @@
 //! Orders of systems that another program, written from the rules alone, gives too.
 use ent_types::Sequence;
-use std::alloc::Global;
-use std::test::Fail;
+use std::alloc::{AllocError, Global};
 use system_order::Band::{First, Last, Middle};
 use system_order::{Band, Child, OrderFault, order, order_by_root};
 
@@ -9,23 +8,19 @@ use system_order::{Band, Child, OrderFault, order, order_by_root};
 /// and after.
 type Line = (u32, bool, Band, &'static [u32], &'static [u32]);
 
-/// Children, and the order of the systems, or the child that precedes itself.
-type Case = (&'static [Line], Result<&'static [u32], u32>);
-
-const ROOTS: [Case; 2] = [
-    (&[], Ok(&[])),
-    (
-        &[
-            (1, false, Middle, &[], &[]),
-            (0, false, Middle, &[], &[]),
-            (2, false, Middle, &[], &[]),
-            (0, false, Middle, &[], &[]),
-        ],
-        Ok(&[4, 6, 3, 5]),
-    ),
+/// Two systems of the first root, and one of each other root.
+const ROOTS: &[Line] = &[
+    (1, false, Middle, &[], &[]),
+    (0, false, Middle, &[], &[]),
+    (2, false, Middle, &[], &[]),
+    (0, false, Middle, &[], &[]),
 ];
 
-const BANDS: [Case; 2] = [
+/// Children, and the order of the systems.
+const ORDERS: [(&[Line], &[u32]); 6] = [
+    (&[], &[]),
+    (ROOTS, &[4, 6, 3, 5]),
+    // Bands.
     (
         &[
             (1, false, Last, &[], &[]),
@@ -34,18 +29,12 @@ const BANDS: [Case; 2] = [
             (1, false, Last, &[], &[]),
             (1, false, First, &[], &[]),
         ],
-        Ok(&[5, 7, 4, 3, 6]),
+        &[5, 7, 4, 3, 6],
     ),
-    (
-        &[(1, false, Last, &[], &[]), (1, false, First, &[], &[3])],
-        Err(3),
-    ),
-];
-
-const NAMES: [Case; 4] = [
+    // Siblings that are named.
     (
         &[(1, false, Middle, &[], &[4]), (1, false, Middle, &[3], &[])],
-        Ok(&[4, 3]),
+        &[4, 3],
     ),
     (
         &[
@@ -54,19 +43,37 @@ const NAMES: [Case; 4] = [
             (1, false, Middle, &[], &[]),
             (1, false, Middle, &[], &[]),
         ],
-        Ok(&[4, 5, 6, 3]),
+        &[4, 5, 6, 3],
     ),
+    // Groups in groups.
     (
-        &[(1, false, Middle, &[], &[4]), (1, false, Middle, &[], &[3])],
-        Err(3),
-    ),
-    (
-        &[(1, false, Middle, &[], &[]), (1, false, Middle, &[4], &[])],
-        Err(4),
+        &[
+            (1, true, Middle, &[], &[]),
+            (3, true, Middle, &[], &[8]),
+            (4, true, Middle, &[], &[]),
+            (5, false, Middle, &[], &[]),
+            (4, false, Middle, &[], &[]),
+            (3, false, Middle, &[], &[]),
+            (1, false, Middle, &[], &[]),
+        ],
+        &[8, 6, 7, 9],
     ),
 ];
 
-const CYCLES: [Case; 3] = [
+/// Children, and the earliest child that precedes itself.
+const CYCLES: [(&[Line], u32); 6] = [
+    (
+        &[(1, false, Last, &[], &[]), (1, false, First, &[], &[3])],
+        3,
+    ),
+    (
+        &[(1, false, Middle, &[], &[4]), (1, false, Middle, &[], &[3])],
+        3,
+    ),
+    (
+        &[(1, false, Middle, &[], &[]), (1, false, Middle, &[4], &[])],
+        4,
+    ),
     (
         &[
             (1, false, Middle, &[], &[4]),
@@ -75,7 +82,7 @@ const CYCLES: [Case; 3] = [
             (1, false, Middle, &[7], &[]),
             (1, false, Middle, &[4], &[]),
         ],
-        Err(4),
+        4,
     ),
     (
         &[
@@ -86,7 +93,7 @@ const CYCLES: [Case; 3] = [
             (1, false, Middle, &[6], &[]),
             (1, false, Middle, &[4], &[]),
         ],
-        Err(4),
+        4,
     ),
     // The cycle of a root comes before that of another group.
     (
@@ -98,97 +105,134 @@ const CYCLES: [Case; 3] = [
             (2, false, Middle, &[8], &[]),
             (2, false, Middle, &[7], &[]),
         ],
-        Err(7),
+        7,
     ),
 ];
 
-const GROUPS: [Case; 1] = [(
-    &[
-        (1, true, Middle, &[], &[]),
-        (3, true, Middle, &[], &[8]),
-        (4, true, Middle, &[], &[]),
-        (5, false, Middle, &[], &[]),
-        (4, false, Middle, &[], &[]),
-        (3, false, Middle, &[], &[]),
-        (1, false, Middle, &[], &[]),
-    ],
-    Ok(&[8, 6, 7, 9]),
-)];
-
-fn child(alloc: Global, line: Line) -> Result<Child, Fail> {
+fn child(alloc: Global, line: Line) -> Result<Child, AllocError> {
     let (parent, is_group, band, before, after) = line;
+    let before = before.to_vec(alloc)?;
+    let after = after.to_vec(alloc)?;
     Ok(Child {
         parent,
         is_group,
         band,
-        before: Sequence::from_vec(before.to_vec(alloc)?),
-        after: Sequence::from_vec(after.to_vec(alloc)?),
+        before: Sequence::from_vec(before),
+        after: Sequence::from_vec(after),
     })
 }
 
-fn push(alloc: Global, children: &mut Vec<Child>, line: Line) -> Result<(), Fail> {
-    children.push(child(alloc, line)?)?;
+/// Adds a child without siblings to be before or after.
+fn push_plain(
+    alloc: Global,
+    children: &mut Vec<Child>,
+    parent: u32,
+    is_group: bool,
+) -> Result<(), AllocError> {
+    let before = Sequence::new(alloc);
+    let after = Sequence::new(alloc);
+    children.push(Child {
+        parent,
+        is_group,
+        band: Middle,
+        before,
+        after,
+    })?;
     Ok(())
 }
 
-/// The three roots.
-fn roots(alloc: Global) -> Result<Vec<Child>, Fail> {
-    let mut children = Vec::new(alloc);
-    for _ in 0..3 {
-        push(alloc, &mut children, (0, true, Middle, &[], &[]))?;
+fn push_all(alloc: Global, children: &mut Vec<Child>, lines: &[Line]) -> Result<(), AllocError> {
+    for line in lines {
+        children.push(child(alloc, *line)?)?;
     }
+    Ok(())
+}
+
+/// Adds the three roots.
+fn push_roots(alloc: Global, children: &mut Vec<Child>) -> Result<(), AllocError> {
+    for _ in 0..3 {
+        push_plain(alloc, children, 0, true)?;
+    }
+    Ok(())
+}
+
+/// Returns the roots and these children.
+fn listed(alloc: Global, lines: &[Line]) -> Result<Vec<Child>, AllocError> {
+    let mut children = Vec::new(alloc);
+    push_roots(alloc, &mut children)?;
+    push_all(alloc, &mut children, lines)?;
     Ok(children)
 }
 
-fn are_ordered(alloc: Global, children: &[Child], wanted: Result<&[u32], u32>) -> bool {
+/// Returns the order of at most 1000 children.
+fn ordered(alloc: Global, children: &[Child]) -> Result<Vec<u32>, OrderFault> {
     if children.len() > 1000 {
-        return false;
+        return Err(OrderFault::Memory);
     }
-    match (order(alloc, children), wanted) {
-        (Ok(systems), Ok(wanted)) => systems.as_slice() == wanted,
-        (Err(fault), Err(child)) => fault == OrderFault::Cycle(child),
-        _ => false,
+    order(alloc, children)
+}
+
+fn are_ordered(alloc: Global, children: &[Child], wanted: &[u32]) -> bool {
+    match ordered(alloc, children) {
+        Ok(systems) => systems.as_slice() == wanted,
+        Err(_) => false,
     }
 }
 
-fn passes(alloc: Global, case: Case) -> Result<bool, Fail> {
-    let (lines, wanted) = case;
-    let mut children = roots(alloc)?;
-    for line in lines {
-        push(alloc, &mut children, *line)?;
+fn have_cycle(alloc: Global, children: &[Child], first: u32) -> bool {
+    match ordered(alloc, children) {
+        Ok(_) => false,
+        Err(fault) => fault == OrderFault::Cycle(first),
     }
-    Ok(are_ordered(alloc, &children, wanted))
 }
 
-fn all_pass(alloc: Global, cases: &[Case]) -> Result<bool, Fail> {
-    for case in cases {
-        if !passes(alloc, *case)? {
-            return Ok(false);
+fn line_up(alloc: Global, lines: &[Line], wanted: &[u32]) -> bool {
+    match listed(alloc, lines) {
+        Ok(children) => are_ordered(alloc, &children, wanted),
+        Err(_) => false,
+    }
+}
+
+fn all_line_up(alloc: Global, cases: &[(&[Line], &[u32])]) -> bool {
+    for (lines, wanted) in cases {
+        if !line_up(alloc, lines, wanted) {
+            return false;
         }
     }
-    Ok(true)
+    true
 }
 
 #[test]
-fn systems_have_the_reference_order(rt: HostRuntime) -> Result<(), Fail> {
-    assert!(rt; all_pass(rt.alloc(), &ROOTS)?);
-    assert!(rt; all_pass(rt.alloc(), &BANDS)?);
-    assert!(rt; all_pass(rt.alloc(), &NAMES)?);
-    assert!(rt; all_pass(rt.alloc(), &GROUPS)?);
-    Ok(())
+fn systems_have_the_reference_order(rt: HostRuntime) {
+    assert!(rt; all_line_up(rt.alloc(), &ORDERS));
+}
+
+fn is_refused(alloc: Global, lines: &[Line], first: u32) -> bool {
+    match listed(alloc, lines) {
+        Ok(children) => have_cycle(alloc, &children, first),
+        Err(_) => false,
+    }
+}
+
+fn all_are_refused(alloc: Global, cases: &[(&[Line], u32)]) -> bool {
+    for (lines, first) in cases {
+        if !is_refused(alloc, lines, *first) {
+            return false;
+        }
+    }
+    true
 }
 
 #[test]
-fn a_cycle_names_its_earliest_child(rt: HostRuntime) -> Result<(), Fail> {
-    assert!(rt; all_pass(rt.alloc(), &CYCLES)?);
-    Ok(())
+fn a_cycle_names_its_earliest_child(rt: HostRuntime) {
+    assert!(rt; all_are_refused(rt.alloc(), &CYCLES));
 }
 
 fn are(found: &Sequence<u32>, wanted: &[u32]) -> bool {
     found.as_slice() == wanted
 }
 
-fn are_by_root(alloc: Global, children: &[Child]) -> bool {
+fn have_roots(alloc: Global, children: &[Child]) -> bool {
     if children.len() > 1000 {
         return false;
     }
@@ -200,38 +244,39 @@ fn are_by_root(alloc: Global, children: &[Child]) -> bool {
     }
 }
 
-fn roots_pass(alloc: Global) -> Result<bool, Fail> {
-    let mut children = roots(alloc)?;
-    for parent in [1, 0, 2, 0] {
-        push(alloc, &mut children, (parent, false, Middle, &[], &[]))?;
+fn roots_pass(alloc: Global, lines: &[Line]) -> bool {
+    match listed(alloc, lines) {
+        Ok(children) => have_roots(alloc, &children),
+        Err(_) => false,
     }
-    Ok(are_by_root(alloc, &children))
 }
 
 #[test]
-fn each_root_has_its_systems(rt: HostRuntime) -> Result<(), Fail> {
-    assert!(rt; roots_pass(rt.alloc())?);
-    Ok(())
+fn each_root_has_its_systems(rt: HostRuntime) {
+    assert!(rt; roots_pass(rt.alloc(), ROOTS));
 }
 
-/// 64 groups, each in the one before it, and a system in the last.
-fn nest(alloc: Global, children: &mut Vec<Child>) -> Result<(), Fail> {
-    push(alloc, children, (1, true, Middle, &[], &[]))?;
+/// 64 groups, each in the one before it, a system in the last, and a system before them.
+fn nested(alloc: Global) -> Result<Vec<Child>, AllocError> {
+    let mut children = Vec::new(alloc);
+    push_roots(alloc, &mut children)?;
+    push_plain(alloc, &mut children, 1, true)?;
     for parent in 3..66 {
-        push(alloc, children, (parent, true, Middle, &[], &[]))?;
+        push_plain(alloc, &mut children, parent, true)?;
     }
-    push(alloc, children, (66, false, Middle, &[], &[]))
+    push_plain(alloc, &mut children, 66, false)?;
+    push_plain(alloc, &mut children, 0, false)?;
+    Ok(children)
 }
 
-fn nested_groups_pass(alloc: Global) -> Result<bool, Fail> {
-    let mut children = roots(alloc)?;
-    nest(alloc, &mut children)?;
-    push(alloc, &mut children, (0, false, Middle, &[], &[]))?;
-    Ok(are_ordered(alloc, &children, Ok(&[68, 67])))
+fn nested_groups_pass(alloc: Global) -> bool {
+    match nested(alloc) {
+        Ok(children) => are_ordered(alloc, &children, &[68, 67]),
+        Err(_) => false,
+    }
 }
 
 #[test]
-fn sixty_four_groups_are_nested(rt: HostRuntime) -> Result<(), Fail> {
-    assert!(rt; nested_groups_pass(rt.alloc())?);
-    Ok(())
+fn sixty_four_groups_are_nested(rt: HostRuntime) {
+    assert!(rt; nested_groups_pass(rt.alloc()));
 }

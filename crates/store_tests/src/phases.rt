@@ -5,7 +5,6 @@ ghost use Rattle.phase_core.specs.Work.{Work};
 use phase_core::{ItemWork, Machine, Memory, StepFault, StepOf};
 use std::alloc::Global;
 use std::cell::Cell;
-use std::test::Fail;
 
 /// An item whose content is the decimal digits of the rows that have run, which it also shows in a cell. One row may
 /// run out of memory.
@@ -38,24 +37,24 @@ impl<'a> ItemWork for Digits<'a> {
     }
 }
 
-/// Steps of two workers over an item of two rows and one of one row, and whether each is lawful.
-const STEPS: [(StepOf, bool); 16] = [
-    (StepOf::Draw(2), false),
-    (StepOf::Row(0), false),
-    (StepOf::Drop(0), false),
-    (StepOf::Draw(0), true),
-    (StepOf::Draw(0), false),
-    (StepOf::Row(0), true),
-    (StepOf::Drop(0), false),
-    (StepOf::Row(0), true),
-    (StepOf::Row(0), false),
-    (StepOf::Drop(0), true),
-    (StepOf::Draw(1), true),
-    (StepOf::Draw(0), true),
-    (StepOf::Draw(0), false),
-    (StepOf::Row(0), false),
-    (StepOf::Row(1), true),
-    (StepOf::Drop(1), true),
+/// Steps of two workers over an item of two rows and one of one row, and what the machine returns.
+const STEPS: [(StepOf, Result<(), StepFault>); 16] = [
+    (StepOf::Draw(2), Err(StepFault::NotAllowed)),
+    (StepOf::Row(0), Err(StepFault::NotAllowed)),
+    (StepOf::Drop(0), Err(StepFault::NotAllowed)),
+    (StepOf::Draw(0), Ok(())),
+    (StepOf::Draw(0), Err(StepFault::NotAllowed)),
+    (StepOf::Row(0), Ok(())),
+    (StepOf::Drop(0), Err(StepFault::NotAllowed)),
+    (StepOf::Row(0), Ok(())),
+    (StepOf::Row(0), Err(StepFault::NotAllowed)),
+    (StepOf::Drop(0), Ok(())),
+    (StepOf::Draw(1), Ok(())),
+    (StepOf::Draw(0), Ok(())),
+    (StepOf::Draw(0), Err(StepFault::NotAllowed)),
+    (StepOf::Row(0), Err(StepFault::NotAllowed)),
+    (StepOf::Row(1), Ok(())),
+    (StepOf::Drop(1), Ok(())),
 ];
 
 /// Lists of which the third step has no memory, and the second step isn't lawful.
@@ -123,64 +122,83 @@ fn ends_in_nine(machine: &mut Machine<Digits<'_>>, choices: u32) -> bool {
     !advances(machine, 0) & !advances(machine, 1)
 }
 
-fn runs_to_the_end(alloc: Global, choices: u32) -> Result<bool, Fail> {
+/// `true` if nine steps end both workers of new items, which show their digits in these cells.
+fn all_run<'a>(alloc: Global, first: &'a Cell<u64>, second: &'a Cell<u64>, choices: u32) -> bool {
+    match two_of_each(alloc, first, second, None) {
+        Ok(mut machine) => ends_in_nine(&mut machine, choices),
+        Err(_) => false,
+    }
+}
+
+fn runs_to_the_end(alloc: Global, choices: u32) -> bool {
     let first = Cell::new(0);
     let second = Cell::new(0);
-    let mut machine = two_of_each(alloc, &first, &second, None)?;
-    let is_ended = ends_in_nine(&mut machine, choices);
-    Ok(is_ended & (first.get() == 12) & (second.get() == 1))
+    all_run(alloc, &first, &second, choices) & (first.get() == 12) & (second.get() == 1)
 }
 
-#[test]
-fn every_order_runs_each_item_to_its_end(rt: HostRuntime) -> Result<(), Fail> {
+fn every_order_ends(alloc: Global) -> bool {
     for choices in 0..512u32 {
-        assert!(rt; runs_to_the_end(rt.alloc(), choices)?);
-    }
-    Ok(())
-}
-
-fn takes_the_lawful(alloc: Global) -> Result<bool, Fail> {
-    let cell = Cell::new(0);
-    let mut machine = two_of_each(alloc, &cell, &cell, None)?;
-    for (step, is_lawful) in STEPS {
-        if machine.apply(step) != is_lawful.then_some(()).ok_or(StepFault::NotAllowed) {
-            return Ok(false);
-        }
-    }
-    Ok(true)
-}
-
-#[test]
-fn each_step_is_lawful_as_the_table_says(rt: HostRuntime) -> Result<(), Fail> {
-    assert!(rt; takes_the_lawful(rt.alloc())?);
-    Ok(())
-}
-
-fn stops_at(machine: &mut Machine<Digits<'_>>, steps: &[StepOf], fault: StepFault) -> bool {
-    machine.run_list(steps) == Err(fault)
-}
-
-fn stands(machine: &mut Machine<Digits<'_>>) -> bool {
-    for (step, wanted) in STANDS {
-        if machine.apply(step) != wanted {
+        if !runs_to_the_end(alloc, choices) {
             return false;
         }
     }
     true
 }
 
-fn keeps_what_was_taken(alloc: Global) -> Result<bool, Fail> {
+#[test]
+fn every_order_runs_each_item_to_its_end(rt: HostRuntime) {
+    assert!(rt; every_order_ends(rt.alloc()));
+}
+
+fn returns(machine: &mut Machine<Digits<'_>>, step: StepOf, wanted: Result<(), StepFault>) -> bool {
+    machine.apply(step) == wanted
+}
+
+/// `true` if the machine returns these results for these steps.
+fn all_return(
+    machine: &mut Machine<Digits<'_>>,
+    steps: &[(StepOf, Result<(), StepFault>)],
+) -> bool {
+    for (step, wanted) in steps {
+        if !returns(machine, *step, *wanted) {
+            return false;
+        }
+    }
+    true
+}
+
+fn lawful_steps_are_taken(alloc: Global) -> bool {
     let cell = Cell::new(0);
-    let mut machine = two_of_each(alloc, &cell, &cell, Some(1))?;
-    let is_first = stops_at(&mut machine, &NO_MEMORY, StepFault::Memory);
-    let is_second = stops_at(&mut machine, &NOT_LAWFUL, StepFault::NotAllowed);
-    Ok(is_first & is_second & stands(&mut machine))
+    match two_of_each(alloc, &cell, &cell, None) {
+        Ok(mut machine) => all_return(&mut machine, &STEPS),
+        Err(_) => false,
+    }
 }
 
 #[test]
-fn a_list_holds_up_to_its_faulty_step(rt: HostRuntime) -> Result<(), Fail> {
-    assert!(rt; keeps_what_was_taken(rt.alloc())?);
-    Ok(())
+fn each_step_is_lawful_as_the_table_says(rt: HostRuntime) {
+    assert!(rt; lawful_steps_are_taken(rt.alloc()));
+}
+
+fn stops_at(machine: &mut Machine<Digits<'_>>, steps: &[StepOf], fault: StepFault) -> bool {
+    machine.run_list(steps) == Err(fault)
+}
+
+fn keeps_what_was_taken(alloc: Global) -> bool {
+    let cell = Cell::new(0);
+    match two_of_each(alloc, &cell, &cell, Some(1)) {
+        Ok(mut machine) => {
+            stops_at(&mut machine, &NO_MEMORY, StepFault::Memory)
+                & stops_at(&mut machine, &NOT_LAWFUL, StepFault::NotAllowed)
+                & all_return(&mut machine, &STANDS)
+        }
+        Err(_) => false,
+    }
+}
+
+#[test]
+fn a_list_holds_up_to_its_faulty_step(rt: HostRuntime) {
+    assert!(rt; keeps_what_was_taken(rt.alloc()));
 }
 
 /// Proved from the contracts alone: a worker that doesn't exist takes no step, and the last item leaves none to draw.
@@ -196,7 +214,6 @@ fn steps_are_proved(alloc: Global) -> Result<(), Memory> {
 }
 
 #[test]
-fn a_worker_draws_first(rt: HostRuntime) -> Result<(), Fail> {
-    steps_are_proved(rt.alloc())?;
-    Ok(())
+fn a_worker_draws_first(rt: HostRuntime) {
+    assert!(rt; steps_are_proved(rt.alloc()).is_ok());
 }

@@ -1,16 +1,16 @@
 //! The bytes that another program, written from the rules alone, makes for chosen numbers.
+use ent_types::Memory;
 use std::alloc::Global;
-use std::test::Fail;
 use workload_make::{scenario_of, scene_of};
 
-/// A number, and the hash of its scenario.
+/// Numbers, each with the hash of its scenario.
 const SCENARIOS: [(u64, u64); 3] = [
     (0, 4461659123785038243),
     (7, 9116620060334858103),
     (u64::MAX, 8020575962312057439),
 ];
 
-/// A number, a scene, and the length and the hash of its bytes.
+/// Numbers, each with a scene, and with the length and the hash of its bytes.
 const SCENES: [(u64, u32, usize, u64); 5] = [
     (0, 1, 6309, 12747171140124726595),
     (7, 1, 5229, 10946650068756798668),
@@ -50,24 +50,66 @@ fn are_bytes(bytes: &[u8], length: usize, sum: u64) -> bool {
     (bytes.len() == length) & (hash(bytes) == sum)
 }
 
-fn scenario_is(alloc: Global, number: u64, sum: u64) -> Result<bool, Fail> {
-    let bytes = scenario_of(alloc, number)?;
-    Ok(are_bytes(&bytes, 1585, sum))
+/// Returns the bytes of a scenario. No contract says more of them here.
+fn scenario(alloc: Global, number: u64) -> Result<Vec<u8>, Memory> {
+    scenario_of(alloc, number)
 }
 
-/// `None` for a scene that no number has.
-fn scene(alloc: Global, number: u64, k: u32) -> Result<Option<Vec<u8>>, Fail> {
-    if k != 1 && k != 2 {
-        return Ok(None);
-    }
-    Ok(Some(scene_of(alloc, number, k)?))
+/// Returns the bytes of scene 1, or of scene 2 where `second` is `true`. No contract says more of them here.
+fn scene(alloc: Global, number: u64, second: bool) -> Result<Vec<u8>, Memory> {
+    scene_of(alloc, number, 1 + u32::from(second))
 }
 
-fn scene_is(alloc: Global, number: u64, k: u32, length: usize, sum: u64) -> Result<bool, Fail> {
-    match scene(alloc, number, k)? {
-        Some(bytes) => Ok(are_bytes(&bytes, length, sum)),
-        None => Ok(false),
+fn scenario_is(alloc: Global, number: u64, sum: u64) -> bool {
+    match scenario(alloc, number) {
+        Ok(bytes) => are_bytes(&bytes, 1585, sum),
+        Err(_) => false,
     }
+}
+
+fn scenarios_are(alloc: Global, cases: &[(u64, u64)]) -> bool {
+    for (number, sum) in cases {
+        if !scenario_is(alloc, *number, *sum) {
+            return false;
+        }
+    }
+    true
+}
+
+fn has_line(bytes: &[u8], line: &str) -> bool {
+    match std::str::from_utf8(bytes) {
+        Ok(text) => text.contains(line),
+        Err(_) => false,
+    }
+}
+
+fn has_spawn_line(alloc: Global) -> bool {
+    match scenario(alloc, 0) {
+        Ok(bytes) => has_line(&bytes, SPAWN_LINE),
+        Err(_) => false,
+    }
+}
+
+#[test]
+fn scenarios_have_the_reference_bytes(rt: HostRuntime) {
+    assert!(rt; scenarios_are(rt.alloc(), &SCENARIOS));
+    assert!(rt; has_spawn_line(rt.alloc()));
+}
+
+fn scene_is(alloc: Global, number: u64, second: bool, length: usize, sum: u64) -> bool {
+    match scene(alloc, number, second) {
+        Ok(bytes) => are_bytes(&bytes, length, sum),
+        Err(_) => false,
+    }
+}
+
+fn scenes_are(alloc: Global, cases: &[(u64, u32, usize, u64)]) -> bool {
+    for (number, k, length, sum) in cases {
+        if !scene_is(alloc, *number, *k == 2, *length, *sum) {
+            return false;
+        }
+    }
+    true
 }
 
 /// `true` if the bytes from `at` on begin with a piece.
@@ -78,45 +120,24 @@ fn has_at(bytes: &[u8], at: usize, piece: &[u8]) -> bool {
     }
 }
 
-fn is_ring(bytes: &[u8]) -> bool {
-    for (at, piece) in RING {
-        if !has_at(bytes, at, piece) {
+fn has_pieces(bytes: &[u8], pieces: &[(usize, &[u8])]) -> bool {
+    for (at, piece) in pieces {
+        if !has_at(bytes, *at, piece) {
             return false;
         }
     }
     true
 }
 
-fn scene_is_ring(alloc: Global) -> Result<bool, Fail> {
-    match scene(alloc, 7, 1)? {
-        Some(bytes) => Ok(is_ring(&bytes)),
-        None => Ok(false),
+fn scene_is_ring(alloc: Global) -> bool {
+    match scene(alloc, 7, false) {
+        Ok(bytes) => has_pieces(&bytes, &RING),
+        Err(_) => false,
     }
-}
-
-fn has_spawn_line(alloc: Global) -> Result<bool, Fail> {
-    let bytes = scenario_of(alloc, 0)?;
-    let text = String::from_utf8(bytes)?;
-    Ok(text.as_str().contains(SPAWN_LINE))
 }
 
 #[test]
-fn scenarios_have_the_reference_bytes(rt: HostRuntime) -> Result<(), Fail> {
-    for (number, sum) in SCENARIOS {
-        assert!(rt; scenario_is(rt.alloc(), number, sum)?, "scenario {number}");
-    }
-    assert!(rt; has_spawn_line(rt.alloc())?);
-    Ok(())
-}
-
-#[test]
-fn scenes_have_the_reference_bytes(rt: HostRuntime) -> Result<(), Fail> {
-    for (number, k, length, sum) in SCENES {
-        assert!(rt;
-            scene_is(rt.alloc(), number, k, length, sum)?,
-            "scene {k} of {number}"
-        );
-    }
-    assert!(rt; scene_is_ring(rt.alloc())?);
-    Ok(())
+fn scenes_have_the_reference_bytes(rt: HostRuntime) {
+    assert!(rt; scenes_are(rt.alloc(), &SCENES));
+    assert!(rt; scene_is_ring(rt.alloc()));
 }

@@ -5,7 +5,7 @@ use expr_read::ExprFault;
 use std::fmt;
 
 /// The answer of a reader to a text: the text is in the language, or has a first fault.
-#[derive(Clone, Copy, Debug, PartialEq, Eq)]
+#[derive(Clone, Copy)]
 pub enum Answer {
     /// The text is in the language.
     Tree,

@@ -1,42 +1,45 @@
 //! What is wrong with a table of cases.
 
 use ent_types::{Memory, RegistryFault};
-use thiserror::Error;
+use std::alloc::{AllocError, AllocFailed};
 
 /// Why a line of the table isn't taken.
-#[derive(Clone, Copy, Debug, PartialEq, Eq, Error)]
+#[derive(Clone, Copy, Debug)]
 pub enum LineFault {
     /// The line begins with no word of the table.
-    #[error("a line of no known sort")]
     UnknownLine,
     /// The line lacks a part, or has one too many.
-    #[error("too few or too many parts")]
     Parts,
     /// A word that may not stand there.
-    #[error("a word that may not stand there")]
     UnknownWord,
     /// A name that isn't one, or that no type has.
-    #[error("no such name")]
     Name,
     /// A number that isn't one.
-    #[error("no such number")]
     Number,
     /// A text that isn't read, or whose tree isn't of the line's kind.
-    #[error("a text of another kind")]
     Unread,
     /// A type that isn't well formed.
-    #[error("a type that isn't well formed")]
     Type,
     /// A type that the registry refuses.
-    #[error("{0}")]
     Registry(RegistryFault),
     /// Memory ran out.
-    #[error("out of memory")]
     Memory,
 }
 
 impl From<Memory> for LineFault {
     fn from(_: Memory) -> LineFault {
+        LineFault::Memory
+    }
+}
+
+impl From<AllocError> for LineFault {
+    fn from(_: AllocError) -> LineFault {
+        LineFault::Memory
+    }
+}
+
+impl<T: Drop> From<AllocFailed<T>> for LineFault {
+    fn from(_: AllocFailed<T>) -> LineFault {
         LineFault::Memory
     }
 }
@@ -48,8 +51,7 @@ impl From<RegistryFault> for LineFault {
 }
 
 /// The first line of a table that isn't taken, numbered from 1.
-#[derive(Clone, Copy, Debug, PartialEq, Eq, Error)]
-#[error("line {line}: {fault}")]
+#[derive(Clone, Copy, Debug)]
 pub struct TableFault {
     /// The line.
     pub line: usize,

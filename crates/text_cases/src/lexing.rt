@@ -1,7 +1,6 @@
 //! The tokens of a text.
 
 use crate::fault::LineFault;
-use ent_types::Memory;
 use expr_tokens::{Lexeme, Token, tokens};
 use std::alloc::Global;
 
@@ -14,10 +13,15 @@ pub fn tokens_text(alloc: Global, text: &str) -> Result<String, LineFault> {
         return Err(LineFault::Unread);
     }
     let lexemes = tokens(alloc, text.as_bytes())?;
+    list_text(alloc, &lexemes)
+}
+
+/// Writes tokens, with commas between them.
+fn list_text(alloc: Global, lexemes: &[Lexeme<'_>]) -> Result<String, LineFault> {
     let mut written = String::new(alloc);
-    for lexeme in &lexemes {
+    for lexeme in lexemes {
         if !written.is_empty() {
-            written.push_str(", ").map_err(Memory::from)?;
+            written.push_str(", ")?;
         }
         push_lexeme(&mut written, *lexeme)?;
     }
@@ -33,5 +37,5 @@ fn push_lexeme(written: &mut String, lexeme: Lexeme<'_>) -> Result<(), LineFault
         Token::Sign(sign) => write!(written, "{at} {sign:?}"),
         Token::Bad => write!(written, "{at} Bad"),
     };
-    Ok(done.map_err(Memory::from)?)
+    Ok(done?)
 }

@@ -18,7 +18,6 @@ mod table;
 mod types;
 mod values;
 
-use anyhow::{Context, Result};
 use std::process::ExitCode;
 use std::rt::Files;
 use std::{fs, io};
@@ -27,42 +26,49 @@ use table::Outcome;
 /// The table's file.
 const TABLE: &str = "texts.tsv";
 
+/// The status where some result isn't the expected one.
+const OTHERWISE: u8 = 1;
+
 /// The status where the table can't be read.
 const NO_TABLE: u8 = 2;
 
 fn main(rt: HostRuntime) -> io::Result<ExitCode> {
-    match try_file(&rt) {
-        Ok(true) => Ok(ExitCode::SUCCESS),
-        Ok(false) => Ok(ExitCode::FAILURE),
+    let status = try_file(&rt)?;
+    Ok(ExitCode::from(status))
+}
+
+/// Tries the table's file, and returns the status.
+fn try_file<R: Files + Print + Eprint + AllocGlobal>(rt: &R) -> io::Result<u8> {
+    match fs::read_to_string(rt, TABLE) {
+        Ok(text) => try_text(rt, text.as_str()),
         Err(error) => {
-            eprintln!(rt; "{error:#}")?;
-            Ok(ExitCode::from(NO_TABLE))
+            eprintln!(rt; "{TABLE}: {error}")?;
+            Ok(NO_TABLE)
         }
     }
 }
 
-/// Tries the table's file, and says whether all is as expected.
-fn try_file<R: Files + Print + AllocGlobal>(rt: &R) -> Result<bool> {
-    let text = fs::read_to_string(rt, TABLE).context(TABLE)?;
-    let outcomes = table::try_table(rt.alloc(), text.as_str())?;
-    Ok(report(rt, outcomes.as_slice())?)
+/// Tries a table, and returns the status.
+fn try_text<R: Print + Eprint + AllocGlobal>(rt: &R, text: &str) -> io::Result<u8> {
+    match table::try_table(rt.alloc(), text) {
+        Ok(outcomes) => report(rt, outcomes.as_slice()),
+        Err(fault) => {
+            eprintln!(rt; "{fault:?}")?;
+            Ok(NO_TABLE)
+        }
+    }
 }
 
-/// Prints what came out, and says whether all is as expected.
-fn report(rt: &impl Print, outcomes: &[Outcome]) -> io::Result<bool> {
+/// Prints what came out, and returns the status.
+fn report<R: Print>(rt: &R, outcomes: &[Outcome]) -> io::Result<u8> {
+    let mut missed = 0usize;
     for outcome in outcomes {
         if let Outcome::Otherwise { line, found } = outcome {
             println!(rt; "line {line}: {found}")?;
+            missed = missed.saturating_add(1);
         }
     }
-    let met = outcomes
-        .iter()
-        .filter(|outcome| matches!(outcome, Outcome::AsExpected))
-        .count();
-    let missed = outcomes
-        .iter()
-        .filter(|outcome| matches!(outcome, Outcome::Otherwise { .. }))
-        .count();
+    let met = outcomes.len().saturating_sub(missed);
     println!(rt; "cases: {met} as expected, {missed} not")?;
-    Ok(missed == 0)
+    Ok(if missed == 0 { 0 } else { OTHERWISE })
 }

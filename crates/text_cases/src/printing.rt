@@ -4,8 +4,9 @@ ghost use Rattle.expr_read.specs.PrintedTexts.{is_field, is_natural, is_printabl
 ghost use Rattle.expr_read.specs.ScopeOf.{is_known};
 
 use crate::fault::LineFault;
-use ent_types::{Memory, Registry, TypeId};
-use expr_read::{Assign, Expr, RefExpr, Scope, print_expr, read_assign, read_expr};
+use crate::reading::{assign_of, expr_of, shown};
+use ent_types::{Registry, TypeId};
+use expr_read::{Assign, Expr, RefExpr, Scope, print_expr};
 use std::alloc::Global;
 
 /// `true` if the registry has the type.
@@ -77,22 +78,27 @@ fn print(alloc: Global, e: &Expr, registry: &Registry) -> Result<String, LineFau
     Ok(print_expr(alloc, e, registry)?)
 }
 
+/// Writes the tree of the printed text, or the cause of its fault.
+fn read_again(alloc: Global, printed: &str, scope: &Scope) -> Result<String, LineFault> {
+    match expr_of(alloc, printed, scope) {
+        Ok(again) => shown(alloc, &again),
+        Err(fault) => shown(alloc, &fault.cause),
+    }
+}
+
+/// Writes `same` if the trees are equal, else the second; a colon, and the printed text.
+fn compared(alloc: Global, before: &str, after: &str, printed: &str) -> Result<String, LineFault> {
+    let outcome = if before == after { "same" } else { after };
+    Ok(format!(in alloc; "{outcome}: {printed}")?)
+}
+
 /// Writes `same` if the printed text is read as the expression, else the tree or the cause of the fault; a colon, and
 /// the printed text.
 fn round(alloc: Global, e: &Expr, scope: &Scope) -> Result<String, LineFault> {
     let printed = print(alloc, e, scope.registry)?;
-    let before = format!(in alloc; "{e:?}").map_err(Memory::from)?;
-    let after = match read_expr(alloc, printed.as_str(), scope) {
-        Ok(again) => format!(in alloc; "{again:?}"),
-        Err(fault) => format!(in alloc; "{:?}", fault.cause),
-    };
-    let after = after.map_err(Memory::from)?;
-    let outcome = if before.as_str() == after.as_str() {
-        "same"
-    } else {
-        after.as_str()
-    };
-    Ok(format!(in alloc; "{outcome}: {printed}").map_err(Memory::from)?)
+    let before = shown(alloc, e)?;
+    let after = read_again(alloc, printed.as_str(), scope)?;
+    compared(alloc, before.as_str(), after.as_str(), printed.as_str())
 }
 
 /// Prints the expression that a text is in one scope, and reads it again in another.
@@ -102,16 +108,22 @@ pub fn printed_text(
     scope: &Scope,
     again: &Scope,
 ) -> Result<String, LineFault> {
-    let Ok(e) = read_expr(alloc, text, scope) else {
-        return Err(LineFault::Unread);
-    };
-    round(alloc, &e, again)
+    match expr_of(alloc, text, scope) {
+        Ok(e) => round(alloc, &e, again),
+        Err(_) => Err(LineFault::Unread),
+    }
+}
+
+/// Returns the field on the left of an assignment as an expression.
+fn field_of(alloc: Global, text: &str, scope: &Scope) -> Result<Expr, LineFault> {
+    match assign_of(alloc, text, scope) {
+        Ok(Assign { ty, field, .. }) => Ok(Expr::Own { ty, field }),
+        Err(_) => Err(LineFault::Unread),
+    }
 }
 
 /// Prints the field on the left of an assignment as a number of the own row, and reads it again.
 pub fn printed_field(alloc: Global, text: &str, scope: &Scope) -> Result<String, LineFault> {
-    let Ok(Assign { ty, field, .. }) = read_assign(alloc, text, scope) else {
-        return Err(LineFault::Unread);
-    };
-    round(alloc, &Expr::Own { ty, field }, scope)
+    let e = field_of(alloc, text, scope)?;
+    round(alloc, &e, scope)
 }

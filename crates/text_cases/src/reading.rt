@@ -4,13 +4,15 @@ ghost use Rattle.text_cases.specs.Claims.{Claims};
 
 use crate::answer::{Answer, told};
 use crate::fault::LineFault;
-use ent_types::Memory;
-use expr_read::{ExprFault, Scope, read_assign, read_command, read_expr, read_ref, read_switch};
+use expr_read::{
+    Assign, CommandText, Expr, ExprFault, RefExpr, Scope, Switch, read_assign, read_command,
+    read_expr, read_ref, read_switch,
+};
 use std::alloc::Global;
 use std::fmt::Debug;
 
 /// The grammar's symbol that a text is read as.
-#[derive(Clone, Copy, Debug, PartialEq, Eq)]
+#[derive(Clone, Copy)]
 pub enum Sort {
     /// An expression.
     Expr,
@@ -51,6 +53,31 @@ pub fn read(alloc: Global, sort: Sort, text: &str, scope: &Scope) -> Answer
     }
 }
 
+/// Returns the expression that a text is. It has no clause, so that the proofs above don't read those of the reader.
+pub fn expr_of(alloc: Global, text: &str, scope: &Scope) -> Result<Expr, ExprFault> {
+    read_expr(alloc, text, scope)
+}
+
+/// Returns the reference that a text is.
+fn ref_of(alloc: Global, text: &str, scope: &Scope) -> Result<RefExpr, ExprFault> {
+    read_ref(alloc, text, scope)
+}
+
+/// Returns the assignment that a text is.
+pub fn assign_of(alloc: Global, text: &str, scope: &Scope) -> Result<Assign, ExprFault> {
+    read_assign(alloc, text, scope)
+}
+
+/// Returns the switch that a text is.
+fn switch_of(alloc: Global, text: &str, scope: &Scope) -> Result<Switch, ExprFault> {
+    read_switch(alloc, text, scope)
+}
+
+/// Returns the command that a text is.
+pub fn command_of(alloc: Global, text: &str, scope: &Scope) -> Result<CommandText, ExprFault> {
+    read_command(alloc, text, scope)
+}
+
 /// Returns the tree that the sort's reader builds of a text, as `Debug` writes it, or the fault.
 pub fn tree_text(
     alloc: Global,
@@ -59,19 +86,28 @@ pub fn tree_text(
     scope: &Scope,
 ) -> Result<String, LineFault> {
     match sort {
-        Sort::Expr => built(alloc, read_expr(alloc, text, scope)),
-        Sort::Ref => built(alloc, read_ref(alloc, text, scope)),
-        Sort::Assign => built(alloc, read_assign(alloc, text, scope)),
-        Sort::Switch => built(alloc, read_switch(alloc, text, scope)),
-        Sort::Command => built(alloc, read_command(alloc, text, scope)),
+        Sort::Expr => built(alloc, expr_of(alloc, text, scope)),
+        Sort::Ref => built(alloc, ref_of(alloc, text, scope)),
+        Sort::Assign => built(alloc, assign_of(alloc, text, scope)),
+        Sort::Switch => built(alloc, switch_of(alloc, text, scope)),
+        Sort::Command => built(alloc, command_of(alloc, text, scope)),
     }
 }
 
 /// Writes a tree or a fault.
 fn built<T: Debug + Drop>(alloc: Global, read: Result<T, ExprFault>) -> Result<String, LineFault> {
-    let written = match read {
-        Ok(tree) => format!(in alloc; "{tree:?}"),
-        Err(fault) => format!(in alloc; "{}", Answer::Fault(fault)),
-    };
-    Ok(written.map_err(Memory::from)?)
+    match read {
+        Ok(tree) => shown(alloc, &tree),
+        Err(fault) => answer_text(alloc, Answer::Fault(fault)),
+    }
+}
+
+/// Writes a value as `Debug` does.
+pub fn shown<T: Debug>(alloc: Global, value: &T) -> Result<String, LineFault> {
+    Ok(format!(in alloc; "{value:?}")?)
+}
+
+/// Writes an answer.
+pub fn answer_text(alloc: Global, answer: Answer) -> Result<String, LineFault> {
+    Ok(format!(in alloc; "{answer}")?)
 }

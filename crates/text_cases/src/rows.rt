@@ -40,7 +40,7 @@ pub fn can_look(ty: TypeId) -> bool
 }
 
 /// The own row: field 0 of each type but 4 is 5, field 1 is its own entity, and each type but 9 is enabled.
-#[derive(Clone, Copy, Debug)]
+#[derive(Clone, Copy)]
 pub struct OwnRow;
 
 impl RowReader for OwnRow {
@@ -90,7 +90,7 @@ impl RowReader for OwnRow {
 }
 
 /// The rows of `FULL` and `DYING`, of which all types but 4 can be read.
-#[derive(Clone, Copy, Debug)]
+#[derive(Clone, Copy)]
 pub struct OtherRows;
 
 impl Lookup for OtherRows {

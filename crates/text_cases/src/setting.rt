@@ -120,7 +120,7 @@ impl Setting {
             number: number.parse().map_err(|_| LineFault::Number)?,
             same_buffer: is_same(buffer)?,
         };
-        self.made.push(made).map_err(Memory::from)?;
+        self.made.push(made)?;
         Ok(())
     }
 }

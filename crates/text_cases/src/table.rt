@@ -4,15 +4,14 @@ ghost use Rattle.std.specs.Prelude.{◌≡◌, ◌↔◌, string_bytes};
 use crate::fault::{LineFault, TableFault};
 use crate::lexing::tokens_text;
 use crate::printing::{printed_field, printed_text};
-use crate::reading::{Sort, read, tree_text};
+use crate::reading::{Sort, answer_text, read, tree_text};
 use crate::setting::{Setting, place_named};
 use crate::values::{entity_text, value_text};
-use ent_types::Memory;
-use expr_read::TextPlace;
+use expr_read::{Scope, TextPlace};
 use std::alloc::Global;
 
 /// How a case ended.
-#[derive(Debug, Drop)]
+#[derive(Drop)]
 pub enum Outcome {
     /// The result is the expected one.
     AsExpected,
@@ -30,15 +29,10 @@ pub enum Outcome {
 /// A line is empty, a remark, a case, or one that changes the scope of the cases after it. The scope before the first
 /// line is a spawn over the built-in types.
 pub fn try_table(alloc: Global, text: &str) -> Result<Vec<Outcome>, TableFault> {
-    let mut setting = Setting::new(alloc, TextPlace::Spawn).map_err(|_| out_of_memory())?;
     let mut outcomes = Vec::new(alloc);
-    for (at, line) in text.lines().enumerate() {
-        let number = at + 1;
-        let tried = try_line(alloc, &mut setting, &mut outcomes, number, line);
-        tried.map_err(|fault| TableFault {
-            line: number,
-            fault,
-        })?;
+    match Setting::new(alloc, TextPlace::Spawn) {
+        Ok(mut setting) => try_lines(alloc, &mut setting, &mut outcomes, text)?,
+        Err(_) => return Err(out_of_memory()),
     }
     Ok(outcomes)
 }
@@ -49,6 +43,25 @@ fn out_of_memory() -> TableFault {
         line: 1,
         fault: LineFault::Memory,
     }
+}
+
+/// Tries the lines of a table, and adds how each case ended.
+fn try_lines(
+    alloc: Global,
+    setting: &mut Setting,
+    outcomes: &mut Vec<Outcome>,
+    text: &str,
+) -> Result<(), TableFault> {
+    for (at, line) in text.lines().enumerate() {
+        let number = at + 1;
+        if let Err(fault) = try_line(alloc, setting, outcomes, number, line) {
+            return Err(TableFault {
+                line: number,
+                fault,
+            });
+        }
+    }
+    Ok(())
 }
 
 /// Tries the case of a line, or changes the scope of the cases after it.
@@ -63,13 +76,14 @@ fn try_line(
         None => setting.take(alloc, line),
         Some((word, rest)) => {
             let outcome = try_case(alloc, setting, number, word, rest)?;
-            outcomes.push(outcome).map_err(Memory::from)?;
+            outcomes.push(outcome)?;
             Ok(())
         }
     }
 }
 
-/// Returns how the case of a line ended. Its expected result is the last part of the line.
+/// Returns how the case of a line ended. Its expected result is the last part of the line, but that of tokens is the
+/// first, so that their text may have tabs.
 fn try_case(
     alloc: Global,
     setting: &Setting,
@@ -77,26 +91,30 @@ fn try_case(
     word: &str,
     rest: &str,
 ) -> Result<Outcome, LineFault> {
-    let (first, wanted) = rest.split_once('\t').ok_or(LineFault::Parts)?;
+    let (first, second) = rest.split_once('\t').ok_or(LineFault::Parts)?;
+    if word == "tokens" {
+        return Ok(compare(number, first, tokens_text(alloc, second)?));
+    }
+    if is_of_one_text(word) {
+        let found = try_one_text(alloc, word, first, &setting.scope())?;
+        return Ok(compare(number, second, found));
+    }
+    let (text, wanted) = second.split_once('\t').ok_or(LineFault::Parts)?;
+    let found = try_text(alloc, setting, word, first, text)?;
+    Ok(compare(number, wanted, found))
+}
+
+/// `true` if the lines with this word have a text and its expected result, and nothing else.
+fn is_of_one_text(word: &str) -> bool {
+    (word == "value") | (word == "entity") | (word == "field")
+}
+
+/// Returns the result of a case that has a text alone.
+fn try_one_text(alloc: Global, word: &str, text: &str, scope: &Scope) -> Result<String, LineFault> {
     match word {
-        "tokens" => compare_tokens(alloc, number, first, wanted),
-        "value" => {
-            let found = value_text(alloc, first, &setting.scope())?;
-            Ok(compare(number, wanted, found))
-        }
-        "entity" => {
-            let found = entity_text(alloc, first, &setting.scope())?;
-            Ok(compare(number, wanted, found))
-        }
-        "field" => {
-            let found = printed_field(alloc, first, &setting.scope())?;
-            Ok(compare(number, wanted, found))
-        }
-        _ => {
-            let (text, wanted) = wanted.split_once('\t').ok_or(LineFault::Parts)?;
-            let found = try_text(alloc, setting, word, first, text)?;
-            Ok(compare(number, wanted, found))
-        }
+        "value" => value_text(alloc, text, scope),
+        "entity" => entity_text(alloc, text, scope),
+        _ => printed_field(alloc, text, scope),
     }
 }
 
@@ -110,25 +128,11 @@ fn try_text(
 ) -> Result<String, LineFault> {
     let scope = setting.scope();
     match word {
-        "case" => {
-            let answer = read(alloc, Sort::named(first)?, text, &scope);
-            Ok(format!(in alloc; "{answer}").map_err(Memory::from)?)
-        }
+        "case" => answer_text(alloc, read(alloc, Sort::named(first)?, text, &scope)),
         "tree" => tree_text(alloc, Sort::named(first)?, text, &scope),
         "print" => printed_text(alloc, text, &scope, &setting.scope_at(place_named(first)?)),
         _ => Err(LineFault::UnknownLine),
     }
-}
-
-/// Returns how a case of tokens ended, whose text is the last part of the line, so that it may have tabs.
-fn compare_tokens(
-    alloc: Global,
-    number: usize,
-    wanted: &str,
-    text: &str,
-) -> Result<Outcome, LineFault> {
-    let found = tokens_text(alloc, text)?;
-    Ok(compare(number, wanted, found))
 }
 
 /// Returns how a case ended, by the expected result and the one that was found.

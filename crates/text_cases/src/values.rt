@@ -4,11 +4,15 @@ ghost use Rattle.expr_eval.specs.Conditions.{reads, ref_reads};
 ghost use Rattle.text_cases.specs.Reads.{has_own, can_look};
 
 use crate::fault::LineFault;
+use crate::reading::{command_of, expr_of};
 use crate::rows::{OtherRows, OwnRow, can_look, has_own};
-use ent_types::{Entity, Memory};
+use ent_types::Entity;
 use expr_eval::{eval, eval_ref};
-use expr_read::{CommandText, Expr, RefExpr, Scope, read_command, read_expr};
+use expr_read::{CommandText, Expr, RefExpr, Scope};
 use std::alloc::Global;
+
+/// What is written of a value that the rows don't have.
+const UNREADABLE: &str = "unreadable";
 
 /// `true` if the own row has the field that the reference names, if it names one.
 fn reads_ref(e: &RefExpr) -> bool
@@ -58,26 +62,35 @@ fn entity(e: &RefExpr) -> Option<Entity> {
     Some(eval_ref(e, &OwnRow))
 }
 
+/// Writes the value of an expression, if the rows have what it reads.
+fn shown_value(alloc: Global, e: &Expr) -> Result<String, LineFault> {
+    match value(e) {
+        Some(value) => Ok(format!(in alloc; "{value}")?),
+        None => Ok(String::from_str(alloc, UNREADABLE)?),
+    }
+}
+
 /// Writes the value of the expression that a text is.
 pub fn value_text(alloc: Global, text: &str, scope: &Scope) -> Result<String, LineFault> {
-    let Ok(e) = read_expr(alloc, text, scope) else {
-        return Err(LineFault::Unread);
-    };
-    let written = match value(&e) {
-        Some(value) => format!(in alloc; "{value}"),
-        None => format!(in alloc; "unreadable"),
-    };
-    Ok(written.map_err(Memory::from)?)
+    match expr_of(alloc, text, scope) {
+        Ok(e) => shown_value(alloc, &e),
+        Err(_) => Err(LineFault::Unread),
+    }
+}
+
+/// Writes the entity of a reference, if the own row has the field that it names.
+fn shown_entity(alloc: Global, e: &RefExpr) -> Result<String, LineFault> {
+    match entity(e) {
+        Some(Entity { index, version }) => Ok(format!(in alloc; "{index}:{version}")?),
+        None => Ok(String::from_str(alloc, UNREADABLE)?),
+    }
 }
 
 /// Writes the entity that a command destroys.
 pub fn entity_text(alloc: Global, text: &str, scope: &Scope) -> Result<String, LineFault> {
-    let Ok(CommandText::Destroy(target)) = read_command(alloc, text, scope) else {
-        return Err(LineFault::Unread);
-    };
-    let written = match entity(&target) {
-        Some(Entity { index, version }) => format!(in alloc; "{index}:{version}"),
-        None => format!(in alloc; "unreadable"),
-    };
-    Ok(written.map_err(Memory::from)?)
+    match command_of(alloc, text, scope) {
+        Ok(CommandText::Destroy(target)) => shown_entity(alloc, &target),
+        Ok(_) => Err(LineFault::Unread),
+        Err(_) => Err(LineFault::Unread),
+    }
 }

@@ -1,11 +1,10 @@
 //! Rows in columns after the spawns: how many rows each block has, and what fields have that no value is given.
-use crate::scenarios::{rows, spawned, tick, with_spawns};
-use ent_types::{Sequence, TypeId, Value};
+use crate::scenarios::{put_spawns, rows, spawned, tick};
+use ent_types::{Memory, Sequence, TypeId, Value};
 use expr_trees::{Expr, PartExpr, ValueExpr};
-use plain_world::PlainWorld;
-use scenario_record::SpawnEntry;
+use plain_world::{PlainBlock, PlainWorld};
+use scenario_record::{Scenario, SpawnEntry};
 use std::alloc::Global;
-use std::test::Fail;
 
 const COUNT: TypeId = TypeId(3);
 
@@ -16,28 +15,43 @@ const WIDER: TypeId = TypeId(5);
 const BARE: TypeId = TypeId(6);
 
 /// Returns a part of a type whose first field is 5. Its other fields get no value.
-fn part(alloc: Global, ty: TypeId) -> Result<PartExpr, Fail> {
+fn part(alloc: Global, ty: TypeId) -> Result<PartExpr, Memory> {
     let mut values = Sequence::new(alloc);
     values.push(ValueExpr::Int(Expr::Number(5)))?;
     Ok(PartExpr { ty, values })
 }
 
-/// Returns a spawn of rows of these types.
-fn rows_of(alloc: Global, count: u32, types: &[TypeId]) -> Result<SpawnEntry, Fail> {
+fn parts_of(alloc: Global, types: &[TypeId]) -> Result<Vec<PartExpr>, Memory> {
     let mut parts = Vec::new(alloc);
     for ty in types {
         parts.push(part(alloc, *ty)?)?;
     }
-    Ok(rows(count, parts))
+    Ok(parts)
+}
+
+/// Returns spawns of rows of these types.
+fn spawns_of(alloc: Global, spawns: &[(u32, &[TypeId])]) -> Result<Vec<SpawnEntry>, Memory> {
+    let mut entries = Vec::new(alloc);
+    for (count, types) in spawns {
+        let parts = parts_of(alloc, types)?;
+        entries.push(rows(*count, parts))?;
+    }
+    Ok(entries)
 }
 
 /// Returns the world after spawns of these types.
-fn world_of(alloc: Global, spawns: &[(u32, &[TypeId])]) -> Result<PlainWorld, Fail> {
-    let mut entries = Vec::new(alloc);
-    for (count, types) in spawns {
-        entries.push(rows_of(alloc, *count, types)?)?;
+fn world_of(
+    alloc: Global,
+    scenario: &mut Scenario,
+    spawns: &[(u32, &[TypeId])],
+) -> Option<PlainWorld> {
+    match spawns_of(alloc, spawns) {
+        Ok(entries) => {
+            put_spawns(scenario, entries);
+            spawned(alloc, scenario)
+        }
+        Err(_) => None,
     }
-    spawned(alloc, &with_spawns(alloc, entries)?)
 }
 
 /// `true` if the blocks have these numbers of rows, in order.
@@ -75,41 +89,87 @@ const BLOCKS: [(&[(u32, &[TypeId])], &[usize]); 4] = [
     (&[(130, &[])], &[128, 2]),
 ];
 
+/// `true` if the blocks have these numbers of rows after the spawns.
+fn fills_blocks(
+    alloc: Global,
+    scenario: &mut Scenario,
+    spawns: &[(u32, &[TypeId])],
+    sizes: &[usize],
+) -> bool {
+    match world_of(alloc, scenario, spawns) {
+        Some(world) => has_sizes(&world, sizes),
+        None => false,
+    }
+}
+
 /// `true` if each block has room for as many rows as fit.
-fn fills_blocks(alloc: Global) -> Result<bool, Fail> {
-    for (spawns, sizes) in BLOCKS {
-        if !has_sizes(&world_of(alloc, spawns)?, sizes) {
-            return Ok(false);
+fn all_fill_blocks(
+    alloc: Global,
+    scenario: &mut Scenario,
+    cases: &[(&[(u32, &[TypeId])], &[usize])],
+) -> bool {
+    for (spawns, sizes) in cases {
+        if !fills_blocks(alloc, scenario, spawns, sizes) {
+            return false;
         }
     }
-    Ok(true)
+    true
+}
+
+fn are_cleared(world: &PlainWorld) -> bool {
+    begins_with(world, 1, 0, 0, 5) & begins_with(world, 1, 0, 7, 0) & begins_with(world, 1, 1, 1, 0)
 }
 
 /// `true` if a field without a value is 0, also in a later block.
-fn clears_fields(alloc: Global) -> Result<bool, Fail> {
-    let world = world_of(alloc, &[(121, &[WIDER, WIDE])])?;
-    Ok(
-        begins_with(&world, 1, 0, 0, 5)
-            & begins_with(&world, 1, 0, 7, 0)
-            & begins_with(&world, 1, 1, 1, 0),
-    )
+fn clears_fields(alloc: Global, scenario: &mut Scenario) -> bool {
+    match world_of(alloc, scenario, &[(121, &[WIDER, WIDE])]) {
+        Some(world) => are_cleared(&world),
+        None => false,
+    }
 }
 
-/// `true` if the spawns leave what they should: rows at moment 1, one for each entity that was made.
-fn counts_entities(alloc: Global) -> Result<bool, Fail> {
-    let world = spawned(alloc, &tick(alloc)?)?;
-    let is_first = match world.blocks.get(0) {
-        Some(block) => block.order == 1 && block.entities.as_slice() == [0, 1].as_slice(),
+fn blocks_are_filled(alloc: Global) -> bool {
+    match tick(alloc) {
+        Ok(mut scenario) => {
+            all_fill_blocks(alloc, &mut scenario, &BLOCKS) & clears_fields(alloc, &mut scenario)
+        }
+        Err(_) => false,
+    }
+}
+
+fn is_first(block: &PlainBlock) -> bool {
+    (block.order == 1) & (block.entities.as_slice() == [0, 1].as_slice())
+}
+
+/// `true` if the rows are at moment 1, one for each entity that was made.
+fn are_counted(world: &PlainWorld) -> bool {
+    match world.blocks.get(0) {
+        Some(block) => {
+            is_first(block)
+                & (world.made == 2)
+                & (world.moment == 1)
+                & begins_with(world, 0, 0, 0, 5)
+        }
         None => false,
-    };
-    Ok(is_first & (world.made == 2) & (world.moment == 1) & begins_with(&world, 0, 0, 0, 5))
+    }
+}
+
+fn counts_entities(alloc: Global, scenario: &Scenario) -> bool {
+    match spawned(alloc, scenario) {
+        Some(world) => are_counted(&world),
+        None => false,
+    }
+}
+
+fn entities_are_counted(alloc: Global) -> bool {
+    match tick(alloc) {
+        Ok(scenario) => counts_entities(alloc, &scenario),
+        Err(_) => false,
+    }
 }
 
 #[test]
-fn spawns_fill_blocks(rt: HostRuntime) -> Result<(), Fail> {
-    let alloc = rt.alloc();
-    assert!(rt; fills_blocks(alloc)?);
-    assert!(rt; clears_fields(alloc)?);
-    assert!(rt; counts_entities(alloc)?);
-    Ok(())
+fn spawns_fill_blocks(rt: HostRuntime) {
+    assert!(rt; blocks_are_filled(rt.alloc()));
+    assert!(rt; entities_are_counted(rt.alloc()));
 }
