@@ -25,7 +25,7 @@ once_less : (e : Entity) (es : List Entity) → AreOnce (e ∷ es) → AreOnce e
 once_less e es once d = let o = once d in omega arith
 
 -- one behind another is another one
-apart : (d e : Entity) (es : List Entity) → AreOnce (e ∷ es) → In d es → same_entity d e ≡ false
+pub apart : (d e : Entity) (es : List Entity) → AreOnce (e ∷ es) → In d es → same_entity d e ≡ false
 apart d e es once i = step (same_entity d e) refl (once d)
   where
     step : (b : Bool) → same_entity d e ≡ b → one_if b + tally (same_entity d) es ≤ 1 → b ≡ false
@@ -34,10 +34,10 @@ apart d e es once i = step (same_entity d e) refl (once d)
 
 -- ---- each entity becomes the one at its place
 
-renamed_behind : (d e to : Entity) (rs : List Renaming) → same_entity d e ≡ false → renamed ((record { from = e; to = to }) ∷ rs) d ≡ renamed rs d
+pub renamed_behind : (d e to : Entity) (rs : List Renaming) → same_entity d e ≡ false → renamed ((record { from = e; to = to }) ∷ rs) d ≡ renamed rs d
 renamed_behind d e to rs other = ap (λ b. unwrap_or (option_map (λ (r : Renaming). r.to) (cond b (Some (record { from = e; to = to })) (find (λ (r : Renaming). same_entity d r.from) rs))) null_entity) other
 
-renamed_here : (e to : Entity) (rs : List Renaming) → renamed ((record { from = e; to = to }) ∷ rs) e ≡ to
+pub renamed_here : (e to : Entity) (rs : List Renaming) → renamed ((record { from = e; to = to }) ∷ rs) e ≡ to
 renamed_here e to rs = ap (λ b. unwrap_or (option_map (λ (r : Renaming). r.to) (cond b (Some (record { from = e; to = to })) (find (λ (r : Renaming). same_entity e r.from) rs))) null_entity) (entity_self e)
 
 map_same : {X Y : Type 0} (f g : X → Y) (xs : List X) → ((x : X) → In x xs → f x ≡ g x) → map f xs ≡ map g xs
