@@ -1,7 +1,6 @@
 -- A scene that is built of nodes and moved into a world: the rows of its nodes have the world's next ids, in file order.
-use Rattle.std.proofs.Common.{◌≡◌, ℕ, zero, suc, ◌+◌, ◌<◌, ◌≤◌, inl, inr, Bool, true, false, List, [], ◌∷◌, ◌++◌, map, length, Option, Some, None, refl, sym, ap, ap₂, ◌∙◌, subst, arith, pos}
+use Rattle.std.proofs.Common.{◌≡◌, ℕ, zero, suc, ◌+◌, ◌<◌, ◌≤◌, inl, inr, Bool, true, false, List, [], ◌∷◌, map, length, Some, refl, sym, ap, ap₂, ◌∙◌, subst, arith, pos}
 use Rattle.std.specs.Prelude.{slice_get}
-use Rattle.std.proofs.lemmas.List.{length-append}
 use Rattle.ent_types.specs.declared.entity.Entity.{Entity}
 use Rattle.ent_types.specs.declared.kinds.FieldKind.TheVariants.{I64}
 use Rattle.ent_types.specs.declared.type_info.TypeInfo.{TypeInfo}
@@ -9,20 +8,19 @@ use Rattle.ent_types.specs.declared.value.Value.TheVariants.{Int}
 use Rattle.ent_types.specs.Fitting.{null_entity, fits_field}
 use Rattle.world_model.specs.Members.{In, one_if, tally}
 use Rattle.world_model.specs.Part.{same_entity}
-use Rattle.world_model.specs.Row.{Row}
 use Rattle.world_model.specs.World.{World}
 use Rattle.world_model.specs.Found.{Found, placed, found, found_by_index, entities_by_index, alive_count}
 use Rattle.world_model.specs.Ids.{room, next_ids}
 use Rattle.world_model.specs.Lawful.{IsLawful, HasRoomForParts}
-use Rattle.world_model.specs.Scenes.{Node, Renaming, renamings, renamed, value_renamed, node_renamings, arrivals, row_moved, built, moved}
+use Rattle.world_model.specs.Scenes.{Node, Renaming, renamings, renamed, node_renamings, arrivals, built, moved}
 use Rattle.world_laws.specs.SceneRows.{AreLawfulNodes, file_entities, node_row, row_renamed, file_rows}
 use Rattle.world_laws.proofs.Perms.{perm_in}
-use Rattle.world_laws.proofs.Members.{in_map, map_in, length_map, member_counts}
+use Rattle.world_laws.proofs.Members.{in_map, map_in, length_map}
 use Rattle.world_laws.proofs.Same.{entity_is}
 use Rattle.world_laws.proofs.Taking.{length_ids}
 use Rattle.world_laws.proofs.ByIndex.{found_by_index_perm}
 use Rattle.world_laws.proofs.Renaming.{AreOnce, entity_of, renamed_null, scene_once, scene_long}
-use Rattle.world_laws.proofs.Moved.{found_moved, moved_finds}
+use Rattle.world_laws.proofs.Moved.{moved_finds}
 use Rattle.world_laws.proofs.Built.{built_lawful, built_registry}
 use Rattle.world_laws.proofs.Twice.{renamed_twice, null_not_fresh, cells_twice}
 use Rattle.world_laws.proofs.FileOrder.{fresh, nodes_once, nodes_become, nodes_named, built_in_file_order}
@@ -114,9 +112,9 @@ module _ (capacity : List ℕ → ℕ) (fits : HasRoomForParts capacity) (w : Wo
       let (n, j, is) = in_map (λ n. row_renamed (renamings (file_entities nodes) ids) (node_row w.registry load n)) x nodes i in
       let y : Found = row_renamed (renamings (file_entities nodes) own) (node_row w.registry load n) in
       let there : In y (placed scene.blocks) =
-          perm_in y (found_by_index_perm capacity scene lawful)
-          (subst (In y) (sym by_index) (map_in (λ n. row_renamed (renamings (file_entities nodes) own) (node_row w.registry load n)) n nodes j)) in
+      perm_in y (found_by_index_perm capacity scene lawful)
+      (subst (In y) (sym by_index) (map_in (λ n. row_renamed (renamings (file_entities nodes) own) (node_row w.registry load n)) n nodes j)) in
       let same : row_renamed (arrivals w scene) y ≡ x =
-          ap (λ rs. row_renamed rs y) arrivals_are ∙ (row_twice (node_row w.registry load n) ∙ sym is) in
+      ap (λ rs. row_renamed rs y) arrivals_are ∙ (row_twice (node_row w.registry load n) ∙ sym is) in
       subst (λ (z : Found). found z.row.entity (moved w scene).blocks ≡ Some z) same
       (moved_finds capacity w scene l lawful (built_registry capacity fits w.registry l.registry load fit nodes h.lawful) (subst (λ n. n ≤ room w) (sym scene_count) few) y there)

@@ -1,11 +1,11 @@
 -- The rows by index are all rows in another order.
-use Rattle.std.proofs.Common.{◌≡◌, ◌≢◌, ℕ, zero, suc, ◌+◌, ◌<◌, ◌≤◌, ◌⊎◌, inl, inr, nat_eq, nat_lt, Bool, true, false, cond, List, [], ◌∷◌, length, find, Option, Some, None, refl, sym, ap, ap₂, ◌∙◌, subst, arith, eqb-true, eq-eqb}
+use Rattle.std.proofs.Common.{◌≡◌, ◌≢◌, ℕ, zero, suc, ◌+◌, ◌<◌, ◌≤◌, inl, inr, nat_eq, nat_lt, Bool, true, false, cond, List, [], ◌∷◌, length, find, Option, Some, None, refl, sym, ap, ap₂, ◌∙◌, subst, arith, eqb-true, eq-eqb}
 use Rattle.std.specs.List.{filter_map, cons_option, range_with_len}
 use Rattle.world_model.specs.Members.{In, one_if, tally}
 use Rattle.world_model.specs.World.{World}
 use Rattle.world_model.specs.Found.{Found, placed, has_index, found_by_index}
 use Rattle.world_model.specs.Lawful.{IsLawful}
-use Rattle.world_laws.proofs.Perms.{Perm, empty, keep, swap, follow, perm_is, perm_find}
+use Rattle.world_laws.proofs.Perms.{Perm, keep, swap, follow, perm_is, perm_find}
 use Rattle.world_laws.proofs.Members.{none_found}
 use Rattle.world_laws.proofs.Meanings.{index_made}
 

@@ -1,5 +1,5 @@
 -- Worked cases of operations and scenes, by computing. A definition that says something else breaks one of them.
-use Rattle.std.proofs.Common.{◌≡◌, ℕ, ℤ, pos, Bool, true, false, cond, List, [], ◌∷◌, map, replicate, Option, Some, None, refl}
+use Rattle.std.proofs.Common.{◌≡◌, ℕ, pos, Bool, true, false, cond, List, [], ◌∷◌, map, replicate, Some, None, refl}
 use Rattle.std.specs.Prelude.{fold}
 use Rattle.chunk_layout.specs.Capacity.{capacity_of, greatest_up_to}
 use Rattle.ent_types.specs.declared.entity.Entity.{Entity}
@@ -16,13 +16,13 @@ use Rattle.ent_types.specs.Types.{column_size}
 use Rattle.ent_types.specs.TypeSets.{has_type}
 use Rattle.world_model.specs.Part.{PartOf}
 use Rattle.world_model.specs.Row.{Cell, Row}
-use Rattle.world_model.specs.World.{Home, Mark, Block, World, empty_world, raised, capacity}
+use Rattle.world_model.specs.World.{Mark, Block, World, raised, capacity}
 use Rattle.world_model.specs.Reads.{value_of, elements_of, element_of}
 use Rattle.world_model.specs.Ids.{room, next_ids}
 use Rattle.world_model.specs.Enter.{enter}
 use Rattle.world_model.specs.Leave.{leave}
 use Rattle.world_model.specs.Write.{rewrite}
-use Rattle.world_model.specs.Operations.{Act, Destroy, Add, Remove, Set, SetShared, SetEnabled, Instantiate, Append, Clear, Operation, Create, On, Reply, Made, Done, Skipped, operate}
+use Rattle.world_model.specs.Operations.{Destroy, Add, Remove, Set, SetShared, SetEnabled, Instantiate, Append, Clear, Operation, Create, On, Reply, Made, Done, Skipped, operate}
 use Rattle.world_model.specs.Scenes.{Node, built, moved, attached, put_ref, put_element_ref}
 
 -- ---- what the cases are about

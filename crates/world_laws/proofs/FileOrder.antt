@@ -1,9 +1,9 @@
 -- The node at place k of a scene becomes the entity k:1 of the world that is built of it.
-use Rattle.std.proofs.Common.{◌≡◌, ℕ, zero, suc, ◌+◌, ◌-◌, ◌<◌, ◌≤◌, min, ◌⊎◌, inl, inr, nat_eq, Bool, true, false, not, ◌&&◌, cond, List, [], ◌∷◌, ◌++◌, map, length, Option, Some, refl, sym, ap, ap₂, ◌∙◌, subst, arith, pos, append-nil, append_assoc, eqb-true}
+use Rattle.std.proofs.Common.{◌≡◌, ℕ, suc, ◌+◌, ◌<◌, ◌≤◌, inl, inr, nat_eq, Bool, true, false, not, ◌&&◌, cond, List, [], ◌∷◌, ◌++◌, map, length, Some, refl, sym, ap, ap₂, ◌∙◌, subst, arith, pos, append-nil, append_assoc, eqb-true}
 use Rattle.std.specs.Prelude.{fold}
 use Rattle.ent_types.specs.declared.entity.Entity.{Entity}
 use Rattle.ent_types.specs.declared.kinds.FieldKind.TheVariants.{I64}
-use Rattle.ent_types.specs.declared.limits.TheConstants.{MOST_ENTITIES, MOST_INDEXES}
+use Rattle.ent_types.specs.declared.limits.TheConstants.{MOST_ENTITIES}
 use Rattle.ent_types.specs.declared.skip.Skip.TheVariants.{TooLarge, Full, NoComponent, NotEnableable}
 use Rattle.ent_types.specs.declared.type_info.TypeInfo.{TypeInfo}
 use Rattle.ent_types.specs.declared.value.Value.{Value}
@@ -15,14 +15,12 @@ use Rattle.ent_types.specs.TypeSets.{has_type}
 use Rattle.world_model.specs.Members.{In, AreDistinct}
 use Rattle.world_model.specs.Part.{PartOf, part_type, part_map, same_entity, by_type}
 use Rattle.world_model.specs.Row.{Cell, Row}
-use Rattle.world_model.specs.World.{Home, Block, World, empty_world}
+use Rattle.world_model.specs.World.{Home, World, empty_world}
 use Rattle.world_model.specs.Found.{Found, placed, found, found_by_index}
 use Rattle.world_model.specs.Fits.{IsKnown, IsFitting}
 use Rattle.world_model.specs.Ids.{take_id, room, next_id, next_ids}
-use Rattle.world_model.specs.Enter.{enter}
-use Rattle.world_model.specs.Write.{rewrite}
 use Rattle.world_model.specs.Operations.{Create, On, SetEnabled, Act, Made, Answer, Outcome, Skips, Writes, Makes, sight, decide, apply, acted, made, operate, switched, home_of, cells_of}
-use Rattle.world_model.specs.Lawful.{IsLawful, HasRoomForParts, Suits}
+use Rattle.world_model.specs.Lawful.{IsLawful, HasRoomForParts}
 use Rattle.world_model.specs.Scenes.{Node, IsLawfulNode, Renaming, renamings, renamed, value_renamed, scene_tag, switched_off, all_off, node_built, node_renamings, built}
 use Rattle.world_laws.specs.SceneRows.{node_parts, AreLawfulNodes, file_entities, cells_disabled, node_row, row_renamed, file_rows}
 use Rattle.world_laws.proofs.Perms.{Perm, empty, keep, follow, perm_is, perm_back, perm_middle, perm_length, perm_in}
@@ -152,10 +150,10 @@ module _ (capacity : List ℕ → ℕ) (fits : HasRoomForParts capacity) (regist
       → IsSoFar capacity registry (switched_off capacity e v t) (with_last (turned registry home.types cells t))
   off_so_far v t cells known h =
       let there : found e v.blocks ≡ Some (placed_row home cells e) =
-          each_once capacity v h.good.lawful (placed_row home cells e)
-          (perm_in (placed_row home cells e) (perm_back h.rows) (in_right (placed_row home cells e) done (placed_row home cells e ∷ []) (inl refl))) in
+      each_once capacity v h.good.lawful (placed_row home cells e)
+      (perm_in (placed_row home cells e) (perm_back h.rows) (in_right (placed_row home cells e) done (placed_row home cells e ∷ []) (inl refl))) in
       let is : operate capacity v (On e (SetEnabled t false)) ≡ apply capacity v e (turn t cells (is_enableable_at v.registry t) (has_type home.types t)) =
-          on_is capacity v e (SetEnabled t false) (placed_row home cells e) there in
+      on_is capacity v e (SetEnabled t false) (placed_row home cells e) there in
       subst (λ (a : Answer). IsSoFar capacity registry a.world (with_last (turned registry home.types cells t))) (sym is)
       (subst (λ r. IsSoFar capacity registry (apply capacity v e (turn t cells (is_enableable_at v.registry t) (has_type home.types t))).world (with_last (turned r home.types cells t))) h.good.same
       (turned_so_far v t cells (is_enableable_at v.registry t) (has_type home.types t) h
@@ -223,7 +221,7 @@ module _ (capacity : List ℕ → ℕ) (fits : HasRoomForParts capacity) (regist
       let after = made_so_far capacity registry w done (home_of registry (node_parts load node)) (first_cells node) so_far (subst (λ (a : Answer). IsLawful capacity a.world) is good.lawful) in
       subst (λ (a : Answer). IsSoFar capacity registry (all_off capacity node.disabled a) (done ++ row_at node (fresh (length done)) ∷ [])) (sym is)
       (subst (λ cells. IsSoFar capacity registry (fold (switched_off capacity (fresh (length done))) (made capacity (home_of registry (node_parts load node)) (first_cells node) w) node.disabled)
-          (done ++ placed_row (home_of registry (node_parts load node)) cells (fresh (length done)) ∷ []))
+      (done ++ placed_row (home_of registry (node_parts load node)) cells (fresh (length done)) ∷ []))
       (cells_turned registry (value_renamed rs) node.disabled (node_parts load node))
       (all_off_so_far capacity fits registry done (home_of registry (node_parts load node)) (fresh (length done)) below node.disabled
       (made capacity (home_of registry (node_parts load node)) (first_cells node) w) (first_cells node) h.known after))

@@ -1,5 +1,5 @@
 -- What lawful worlds are: each entity once, null never, each alive entity found.
-use Rattle.std.proofs.Common.{◌≡◌, ℕ, ◌+◌, ◌<◌, ◌≤◌, ◌⊎◌, inl, inr, nat_eq, nat_lt, Bool, true, false, cond, List, [], ◌∷◌, map, filter, find, Option, Some, None, refl, sym, ap, ◌∙◌, subst, arith, eqb-true, eq-eqb, ltb-true}
+use Rattle.std.proofs.Common.{◌≡◌, ℕ, ◌+◌, ◌<◌, ◌≤◌, inl, inr, nat_lt, Bool, true, false, cond, List, [], ◌∷◌, find, Option, Some, None, refl, sym, ap, ◌∙◌, arith, eq-eqb, ltb-true}
 use Rattle.ent_types.specs.declared.entity.Entity.{Entity}
 use Rattle.ent_types.specs.declared.type_info.TypeInfo.{TypeInfo}
 use Rattle.ent_types.specs.Fitting.{null_entity}
@@ -9,7 +9,7 @@ use Rattle.chunk_layout.proofs.Sublists.{IsSublist-map, IsSublist-filter, capaci
 use Rattle.world_model.specs.Members.{In, one_if, tally}
 use Rattle.world_model.specs.World.{World, capacity}
 use Rattle.world_model.specs.Found.{Found, placed, is_of, found, has_index}
-use Rattle.world_model.specs.Lawful.{is_free_at, IsSound, IsLawful, HasRoomForParts}
+use Rattle.world_model.specs.Lawful.{is_free_at, IsLawful, HasRoomForParts}
 use Rattle.world_laws.proofs.Members.{find_in, find_passes, member_counts}
 use Rattle.world_laws.proofs.Same.{entity_is, entity_self}
 use Rattle.world_laws.proofs.Sound.{one_at_most}

@@ -1,5 +1,5 @@
 -- Each alive entity of a scene gets an id of its own, in order of indexes, and every other one becomes null.
-use Rattle.std.proofs.Common.{◌≡◌, ℕ, suc, ◌+◌, ◌≤◌, ◌⊎◌, inl, inr, Bool, true, false, ◌&&◌, cond, nat_eq, List, [], ◌∷◌, map, length, find, Option, Some, None, option_map, refl, sym, ap, ap₂, ◌∙◌, subst, arith}
+use Rattle.std.proofs.Common.{◌≡◌, ℕ, ◌+◌, ◌≤◌, inl, inr, Bool, true, false, cond, List, [], ◌∷◌, map, length, find, Some, None, option_map, refl, sym, ap, ap₂, ◌∙◌, subst, arith}
 use Rattle.std.specs.Prelude.{unwrap_or}
 use Rattle.ent_types.specs.declared.entity.Entity.{Entity}
 use Rattle.ent_types.specs.Fitting.{null_entity}
@@ -11,8 +11,8 @@ use Rattle.world_model.specs.Ids.{next_ids}
 use Rattle.world_model.specs.Scenes.{Renaming, renamings, renamed, arrivals}
 use Rattle.world_model.specs.Lawful.{IsLawful}
 use Rattle.world_laws.proofs.Perms.{Perm, perm_back, perm_in, perm_tally, perm_length}
-use Rattle.world_laws.proofs.Members.{in_map, map_in, length_map, member_counts}
-use Rattle.world_laws.proofs.Same.{entity_is, entity_self}
+use Rattle.world_laws.proofs.Members.{map_in, length_map, member_counts}
+use Rattle.world_laws.proofs.Same.{entity_self}
 use Rattle.world_laws.proofs.Sound.{one_at_most}
 use Rattle.world_laws.proofs.ByIndex.{found_by_index_perm}
 use Rattle.world_laws.proofs.Taking.{length_ids}

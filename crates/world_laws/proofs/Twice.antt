@@ -1,6 +1,6 @@
 -- References that are renamed twice, from a file to its own world and from there to another, are renamed from the file to the
 -- other world.
-use Rattle.std.proofs.Common.{◌≡◌, ℕ, zero, suc, ◌+◌, ◌≤◌, ◌⊎◌, inl, inr, nat_eq, Bool, true, false, ◌&&◌, cond, List, [], ◌∷◌, map, length, find, Option, Some, None, option_map, refl, sym, ap, ap₂, ◌∙◌, subst, arith}
+use Rattle.std.proofs.Common.{◌≡◌, ℕ, zero, suc, ◌+◌, ◌≤◌, ◌⊎◌, inl, inr, nat_eq, Bool, true, false, ◌&&◌, cond, List, [], ◌∷◌, map, length, find, Some, option_map, refl, sym, ap, ap₂, ◌∙◌, subst, arith}
 use Rattle.std.specs.Prelude.{unwrap_or}
 use Rattle.ent_types.specs.declared.entity.Entity.{Entity}
 use Rattle.ent_types.specs.declared.value.Value.{Value}
@@ -11,7 +11,6 @@ use Rattle.world_model.specs.Part.{same_entity}
 use Rattle.world_model.specs.Row.{Cell}
 use Rattle.world_model.specs.Ids.{next_ids}
 use Rattle.world_model.specs.Scenes.{Renaming, renamings, renamed, value_renamed}
-use Rattle.world_laws.proofs.Members.{map_in, member_counts}
 use Rattle.world_laws.proofs.Same.{entity_is}
 use Rattle.world_laws.proofs.Renaming.{AreOnce, apart, renamed_behind, renamed_here}
 use Rattle.world_laws.proofs.NodeRows.{cell_changed}

@@ -1,5 +1,5 @@
 -- The rows that the nodes of a scene become, in file order.
-use Rattle.std.specs.Prelude.{ℕ, ◌≤◌, ◌&&◌, Bool, false, List, ◌∷◌, map, length}
+use Rattle.std.specs.Prelude.{ℕ, ◌≤◌, ◌&&◌, false, List, ◌∷◌, map, length}
 use Rattle.ent_types.specs.declared.entity.Entity.{Entity}
 use Rattle.ent_types.specs.declared.limits.TheConstants.{MOST_ENTITIES}
 use Rattle.ent_types.specs.declared.type_info.TypeInfo.{TypeInfo}
