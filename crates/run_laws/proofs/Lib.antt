@@ -16,4 +16,6 @@ pub mod Examples
 pub mod RunLawful
 pub mod PlayLawful
 pub mod EntriesSuit
+pub mod ScenesLawful
 pub mod FrameLawful
+pub mod ScenesExamples

@@ -1,7 +1,7 @@
 //! Laws of runs. Each is a function that does nothing, whose contract is the law.
 #![tactic(auto)]
 
-ghost use Rattle.std.specs.Prelude.{◌≡◌, ℕ, ◌≤◌, Bool, true, List, length, map, filter, Option, option_map};
+ghost use Rattle.std.specs.Prelude.{◌≡◌, ℕ, ◌+◌, ◌≤◌, Bool, true, List, length, map, filter, Option, option_map};
 ghost use Rattle.std.specs.List.{flat_map};
 ghost use Rattle.std.specs.List.Sorted.{IsPermutation, IsSortedBy};
 ghost use Rattle.ent_types.specs.declared.type_info.TypeInfo.{TypeInfo};
@@ -27,7 +27,7 @@ ghost use Rattle.run_model.specs.Phases.{touches, phases, Turn, turn_of, AreApar
 ghost use Rattle.run_model.specs.PhaseSteps.{Numbered, number_of, tasks_of_phase, turns_of, after_phase};
 ghost use Rattle.run_laws.specs.Agree.{CellsAgree, RowAgree, OthersAgree};
 ghost use Rattle.run_laws.specs.Entries.{AreDifferent};
-ghost use Rattle.run_laws.specs.Lawful.{IsLawfulState, StepSuits, OnGoes};
+ghost use Rattle.run_laws.specs.Lawful.{IsLawfulState, StepSuits, step_requests, task_requests, HasFewLoads, OnGoes, IsLawfulWith};
 ghost use Rattle.run_laws.specs.Suits.{AllSuit, HasLawfulTexts, SystemSuits};
 ghost use Rattle.run_laws.specs.Versions.{run_versions, IsLast, HasMoments, state_versions, course_versions, StateHasMoments};
 
@@ -137,9 +137,17 @@ pub fn playback_keeps_worlds_lawful()
         → IsLawful capacity w → IsLawful capacity (playback capacity w entries).world }
 {}
 
-/// A step of a frame keeps a state lawful, in a run that requests no scene.
+/// A step of a frame keeps a state lawful, also with loads that are pending, scenes that move in and scenes that are unloaded.
+/// The step's requests are the new loads.
 pub fn steps_keep_states_lawful()
     ensures { (capacity : List ℕ → ℕ) → HasRoomForParts capacity → (first : ℕ) (trace : Bool) (registry : List TypeInfo) (st : State) (t : Task)
-        → StepSuits registry t.step → IsLawfulState capacity registry st
-        → OnGoes (IsLawfulState capacity registry) (course_after (moments first) capacity trace st t) }
+        → StepSuits registry t.step → HasFewLoads (step_requests t.step) st → IsLawfulState capacity registry st
+        → OnGoes (IsLawfulWith capacity registry (length st.loads + step_requests t.step)) (course_after (moments first) capacity trace st t) }
+{}
+
+/// All steps of a run keep a state lawful, if they suit its types and request no more scenes than a scenario has events.
+pub fn runs_keep_states_lawful()
+    ensures { (capacity : List ℕ → ℕ) → HasRoomForParts capacity → (first : ℕ) (trace : Bool) (registry : List TypeInfo) (st : State) (ts : List Task)
+        → ((t : Task) → In t ts → StepSuits registry t.step) → HasFewLoads (task_requests ts) st → IsLawfulState capacity registry st
+        → OnGoes (IsLawfulWith capacity registry (length st.loads + task_requests ts)) (course_after_all (moments first) capacity trace ts (Goes st)) }
 {}

@@ -44,21 +44,21 @@ operate_registry capacity w (On e a) = step (found e w.blocks)
 
 -- ---- the parts of a node
 
-tag_fits : (registry : List TypeInfo) → IsLawfulRegistry registry → (load : ℕ) → fits_field I64 (Int (pos load)) ≡ true → IsFitting registry (scene_tag load)
+pub tag_fits : (registry : List TypeInfo) → IsLawfulRegistry registry → (load : ℕ) → fits_field I64 (Int (pos load)) ≡ true → IsFitting registry (scene_tag load)
 unfolding fits_type
 tag_fits registry l load fit = record {
   known = (let three = least_types registry l in omega arith);
   fit = subst (λ (t : TypeInfo). fits_type t (Int (pos load) ∷ []) ≡ true) (sym (scene_tag-at registry l)) (ap (λ b. b && true) fit);
 }
 
-abbrev parts_of : List Renaming → ℕ → Node → List (PartOf Value)
+abbrev pub parts_of : List Renaming → ℕ → Node → List (PartOf Value)
 parts_of rs load node = scene_tag load ∷ map (part_map (value_renamed rs)) node.parts
 
 same_types : {V W : Type 0} (f : V → W) (ps : List (PartOf V)) → map part_type (map (part_map f) ps) ≡ map part_type ps
 same_types f [] = refl
 same_types f (p ∷ ps) = ap (λ ts. p.type_id ∷ ts) (same_types f ps)
 
-node_suits : (registry : List TypeInfo) → IsLawfulRegistry registry → (rs : List Renaming) (load : ℕ) → fits_field I64 (Int (pos load)) ≡ true → (node : Node) → IsLawfulNode registry node
+pub node_suits : (registry : List TypeInfo) → IsLawfulRegistry registry → (rs : List Renaming) (load : ℕ) → fits_field I64 (Int (pos load)) ≡ true → (node : Node) → IsLawfulNode registry node
     → Suits registry (Create (parts_of rs load node))
 node_suits registry l rs load fit node h = (fits, subst (λ ts. AreDistinct (SCENE_TAG.0 ∷ ts)) (sym (same_types (value_renamed rs) node.parts)) h.distinct)
   where
@@ -72,12 +72,12 @@ node_suits registry l rs load fit node h = (fits, subst (λ ts. AreDistinct (SCE
 
 -- ---- lawful
 
-record IsGood (capacity : List ℕ → ℕ) (registry : List TypeInfo) (w : World) : Type 0 where
-  lawful : IsLawful capacity w
-  same : w.registry ≡ registry
+pub record IsGood (capacity : List ℕ → ℕ) (registry : List TypeInfo) (w : World) : Type 0 where
+  pub lawful : IsLawful capacity w
+  pub same : w.registry ≡ registry
 
 module _ (capacity : List ℕ → ℕ) (fits : HasRoomForParts capacity) (registry : List TypeInfo) where
-  operate_good : (w : World) (o : Operation) → IsGood capacity registry w → Suits registry o → IsGood capacity registry (operate capacity w o).world
+  pub operate_good : (w : World) (o : Operation) → IsGood capacity registry w → Suits registry o → IsGood capacity registry (operate capacity w o).world
   operate_good w o g suits = record {
     lawful = operate_lawful capacity fits w o (subst (λ r. Suits r o) (sym g.same) suits) g.lawful;
     same = operate_registry capacity w o ∙ g.same;
@@ -103,7 +103,7 @@ module _ (capacity : List ℕ → ℕ) (fits : HasRoomForParts capacity) (regist
     nodes_good rs [] w all g = g
     nodes_good rs (n ∷ ns) w all g = nodes_good rs ns (node_built capacity rs load w n) (λ m i. all m (inr i)) (node_good rs w n (all n (inl refl)) g)
 
-    empty_good : IsGood capacity registry (empty_world registry 1 1)
+    pub empty_good : IsGood capacity registry (empty_world registry 1 1)
     empty_good = record {
       lawful = record {
         registry = lawful;

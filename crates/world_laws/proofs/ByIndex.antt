@@ -1,11 +1,11 @@
 -- The rows by index are all rows in another order.
-use Rattle.std.proofs.Common.{◌≡◌, ◌≢◌, ℕ, zero, suc, ◌+◌, ◌<◌, ◌≤◌, ◌⊎◌, inl, inr, nat_eq, nat_lt, Bool, true, false, cond, List, [], ◌∷◌, length, find, Option, Some, None, refl, sym, ap, ap₂, ◌∙◌, subst, arith, eqb-true, eq-eqb}
+use Rattle.std.proofs.Common.{◌≡◌, ◌≢◌, ℕ, zero, suc, ◌+◌, ◌<◌, ◌≤◌, inl, inr, nat_eq, nat_lt, Bool, true, false, cond, List, [], ◌∷◌, length, find, Option, Some, None, refl, sym, ap, ap₂, ◌∙◌, subst, arith, eqb-true, eq-eqb}
 use Rattle.std.specs.List.{filter_map, cons_option, range_with_len}
 use Rattle.world_model.specs.Members.{In, one_if, tally}
 use Rattle.world_model.specs.World.{World}
 use Rattle.world_model.specs.Found.{Found, placed, has_index, found_by_index}
 use Rattle.world_model.specs.Lawful.{IsLawful}
-use Rattle.world_laws.proofs.Perms.{Perm, empty, keep, swap, follow, perm_is}
+use Rattle.world_laws.proofs.Perms.{Perm, keep, swap, follow, perm_is, perm_find}
 use Rattle.world_laws.proofs.Members.{none_found}
 use Rattle.world_laws.proofs.Meanings.{index_made}
 
@@ -85,6 +85,43 @@ by_index_perm m (x ∷ xs) few made =
 
 pub found_by_index_perm : (capacity : List ℕ → ℕ) (w : World) → IsLawful capacity w → Perm Found (found_by_index w) (placed w.blocks)
 found_by_index_perm capacity w l = by_index_perm w.made (placed w.blocks) few (index_made capacity w l)
+  where
+    few : (i : ℕ) → tally (has_index i) (placed w.blocks) ≤ 1
+    few i = let s = l.sound i in let m = most (nat_lt i w.made) in omega arith
+      where
+        most : (b : Bool) → one_if b ≤ 1
+        most true = omega arith
+        most false = omega arith
+
+-- ---- rows that stand by index
+
+-- the first of these rows has this index, and each further one the next
+abbrev pub AreFrom : ℕ → List Found → Type 0
+AreFrom a [] = Unit {0}
+AreFrom a (x ∷ xs) = (x.row.entity.index ≡ a) × AreFrom (a + 1) xs
+
+in_order : (a : ℕ) (xs : List Found) → AreFrom a xs → filter_map (λ i. find (has_index i) xs) (range_with_len a (length xs)) ≡ xs
+in_order a [] from = refl
+in_order a (x ∷ xs) from =
+    ap (λ b. cons_option (cond b (Some x) (find (has_index a) xs)) (filter_map (λ i. find (has_index i) (x ∷ xs)) (range_with_len (a + 1) (length xs))))
+    (eq-eqb a x.row.entity.index (sym from.0))
+    ∙ ap (λ ys. x ∷ ys)
+    (absent x.row.entity.index x (λ i. find (has_index i) xs) (range_with_len (a + 1) (length xs)) (range_before x.row.entity.index (a + 1) (length xs) (less from.0))
+    ∙ in_order (a + 1) xs from.1)
+  where
+    less : x.row.entity.index ≡ a → x.row.entity.index < a + 1
+    less is = omega arith
+
+filter_map_same : {X : Type 0} (f g : ℕ → Option X) (is : List ℕ) → ((i : ℕ) → f i ≡ g i) → filter_map f is ≡ filter_map g is
+filter_map_same f g [] same = refl
+filter_map_same f g (i ∷ is) same = ap₂ (λ o xs. cons_option o xs) (same i) (filter_map_same f g is same)
+
+-- rows with the indexes 0, 1, .. are the rows by index of a lawful world that has them in another order
+pub found_by_index_is : (capacity : List ℕ → ℕ) (w : World) → IsLawful capacity w → (xs : List Found) → Perm Found (placed w.blocks) xs → AreFrom 0 xs → w.made ≡ length xs
+    → found_by_index w ≡ xs
+found_by_index_is capacity w l xs rows from made =
+    filter_map_same (λ i. find (has_index i) (placed w.blocks)) (λ i. find (has_index i) xs) (range_with_len 0 w.made) (λ i. perm_find (has_index i) rows (few i))
+    ∙ (ap (λ n. filter_map (λ i. find (has_index i) xs) (range_with_len 0 n)) made ∙ in_order 0 xs from)
   where
     few : (i : ℕ) → tally (has_index i) (placed w.blocks) ≤ 1
     few i = let s = l.sound i in let m = most (nat_lt i w.made) in omega arith

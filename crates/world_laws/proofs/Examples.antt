@@ -1,6 +1,7 @@
 -- Worked cases of operations and scenes, by computing. A definition that says something else breaks one of them.
-use Rattle.std.proofs.Common.{◌≡◌, ℕ, ℤ, pos, Bool, true, false, cond, List, [], ◌∷◌, map, replicate, Option, Some, None, refl}
+use Rattle.std.proofs.Common.{◌≡◌, ℕ, pos, Bool, true, false, cond, List, [], ◌∷◌, map, replicate, Some, None, refl}
 use Rattle.std.specs.Prelude.{fold}
+use Rattle.chunk_layout.specs.Capacity.{capacity_of, greatest_up_to}
 use Rattle.ent_types.specs.declared.entity.Entity.{Entity}
 use Rattle.ent_types.specs.declared.kinds.FieldKind.TheVariants.{I32, I64, Ref as RefField}
 use Rattle.ent_types.specs.declared.kinds.Kind.{Kind}
@@ -11,16 +12,17 @@ use Rattle.ent_types.specs.declared.type_info.TypeInfo.{TypeInfo}
 use Rattle.ent_types.specs.declared.value.Value.{Value}
 use Rattle.ent_types.specs.declared.value.Value.TheVariants.{Int, Ref}
 use Rattle.ent_types.specs.Fitting.{null_entity}
+use Rattle.ent_types.specs.Types.{column_size}
 use Rattle.ent_types.specs.TypeSets.{has_type}
 use Rattle.world_model.specs.Part.{PartOf}
 use Rattle.world_model.specs.Row.{Cell, Row}
-use Rattle.world_model.specs.World.{Home, Mark, Block, World, empty_world}
+use Rattle.world_model.specs.World.{Mark, Block, World, raised, capacity}
 use Rattle.world_model.specs.Reads.{value_of, elements_of, element_of}
 use Rattle.world_model.specs.Ids.{room, next_ids}
 use Rattle.world_model.specs.Enter.{enter}
 use Rattle.world_model.specs.Leave.{leave}
 use Rattle.world_model.specs.Write.{rewrite}
-use Rattle.world_model.specs.Operations.{Act, Destroy, Add, Remove, Set, SetShared, SetEnabled, Instantiate, Append, Clear, Operation, Create, On, Reply, Made, Done, Skipped, operate}
+use Rattle.world_model.specs.Operations.{Destroy, Add, Remove, Set, SetShared, SetEnabled, Instantiate, Append, Clear, Operation, Create, On, Reply, Made, Done, Skipped, operate}
 use Rattle.world_model.specs.Scenes.{Node, built, moved, attached, put_ref, put_element_ref}
 
 -- ---- what the cases are about
@@ -136,6 +138,11 @@ create_takes_freed : reply (world [] (e 4 2 ∷ e 3 9 ∷ []) 7) (Create []) ≡
 unfolding operate
 create_takes_freed = refl
 
+-- a fresh index has the first version of the world
+create_first_version : reply (record empty { first_entity_version = 3 }) (Create []) ≡ Made (e 0 3)
+unfolding operate
+create_first_version = refl
+
 abbrev full : World
 full = world [] [] 4194304
 
@@ -204,6 +211,20 @@ dying_ends : after keeper (On (e 0 1) Destroy ∷ On (e 0 1) (Remove 6) ∷ [])
     ≡ world (block (6 ∷ []) [] (mark 6 2 ∷ []) 5 (row (e 1 1) (cell 6 3 ∷ []) ∷ []) ∷ []) (e 0 2 ∷ []) 2
 unfolding operate leave rewrite
 dying_ends = refl
+
+-- what else is done to a dying row leaves it dying
+abbrev dying_world : World
+dying_world = world (block (3 ∷ 4 ∷ 5 ∷ []) (part 5 2 ∷ []) (mark 3 2 ∷ mark 4 2 ∷ mark 5 2 ∷ []) 2 (dying_row (e 0 1) (cell 3 7 ∷ tag_cell 4 false ∷ []) ∷ []) ∷ []) [] 1
+
+dying_set : (after dying_world (On (e 0 1) (Set (part 3 8)) ∷ On (e 0 1) (SetEnabled 4 false) ∷ [])).blocks
+    ≡ block (3 ∷ 4 ∷ 5 ∷ []) (part 5 2 ∷ []) (mark 3 5 ∷ mark 4 5 ∷ mark 5 2 ∷ []) 2 (dying_row (e 0 1) (cell 3 8 ∷ tag_cell 4 true ∷ []) ∷ []) ∷ []
+unfolding operate rewrite
+dying_set = refl
+
+dying_shared : (after dying_world (On (e 0 1) (SetShared (part 5 3)) ∷ On (e 0 1) (Add (part 2 9)) ∷ [])).blocks
+    ≡ block (2 ∷ 3 ∷ 4 ∷ 5 ∷ []) (part 2 9 ∷ part 5 3 ∷ []) (mark 2 5 ∷ mark 3 5 ∷ mark 4 5 ∷ mark 5 5 ∷ []) 5 (dying_row (e 0 1) (cell 3 7 ∷ tag_cell 4 false ∷ []) ∷ []) ∷ []
+unfolding operate enter leave
+dying_shared = refl
 
 -- ---- add and remove
 
@@ -356,6 +377,13 @@ clear_lacking = refl
 read_values : map (λ t. value_of team (e 0 1) t 0) (3 ∷ 5 ∷ 6 ∷ []) ≡ Some (Int (pos 7)) ∷ Some (Int (pos 2)) ∷ None ∷ []
 read_values = refl
 
+-- a type that is disabled, and a row that is dying, are read like any other
+read_disabled : value_of (world (block (3 ∷ []) [] (mark 3 2 ∷ []) 2 (row (e 0 1) (record { type_id = 3; values = Int (pos 7) ∷ []; off = true } ∷ []) ∷ []) ∷ []) [] 1) (e 0 1) 3 0 ≡ Some (Int (pos 7))
+read_disabled = refl
+
+read_dying : value_of dying_world (e 0 1) 3 0 ≡ Some (Int (pos 7))
+read_dying = refl
+
 read_of_none : value_of team (e 0 2) 3 0 ≡ None
 read_of_none = refl
 
@@ -425,3 +453,17 @@ put_in_element = refl
 
 ids_in_order : next_ids 4 (e 4 2 ∷ e 3 9 ∷ []) 7 1 ≡ e 4 2 ∷ e 3 9 ∷ e 7 1 ∷ e 8 1 ∷ []
 ids_in_order = refl
+
+-- ---- capacity and moments
+
+-- 64 fields of 8 bytes; a shared type and a buffer have no column
+abbrev wide : TypeInfo
+wide = a_type Plain (replicate 64 (record { name = []; kind = I64 })) false
+
+capacity_by_types : map (capacity (wide ∷ wide ∷ a_type Shared (number ∷ []) false ∷ a_type Buffer (number ∷ []) false ∷ [])) ((0 ∷ []) ∷ (0 ∷ 1 ∷ 2 ∷ 3 ∷ []) ∷ (2 ∷ 3 ∷ []) ∷ [])
+    ≡ 31 ∷ 15 ∷ 128 ∷ []
+unfolding capacity_of greatest_up_to column_size
+capacity_by_types = refl
+
+moment_after : (raised one).moment ≡ 6
+moment_after = refl

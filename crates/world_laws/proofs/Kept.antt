@@ -107,7 +107,7 @@ module _ (capacity : List ℕ → ℕ) (w : World) (l : IsLawful capacity w) whe
       free_left [] all e i = absurd i
       free_left (d ∷ ds) all e i = all e (inr i)
 
-      made_few : (free : List Entity) → 1 ≤ min (1048576 - length (placed w.blocks)) (length free + (4194304 - w.made)) → (take_id free w.made w.first_entity_version).made ≤ MOST_INDEXES
+      made_few : (free : List Entity) → 1 ≤ min (MOST_ENTITIES - length (placed w.blocks)) (length free + (MOST_INDEXES - w.made)) → (take_id free w.made w.first_entity_version).made ≤ MOST_INDEXES
       made_few [] r = omega arith
       made_few (e ∷ es) r = l.made
 

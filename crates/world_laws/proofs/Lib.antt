@@ -19,3 +19,7 @@ pub mod Renaming
 pub mod Moved
 pub mod MovedVersions
 pub mod Built
+pub mod NodeRows
+pub mod Twice
+pub mod FileOrder
+pub mod Arriving

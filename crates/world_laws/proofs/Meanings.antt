@@ -1,5 +1,5 @@
 -- What lawful worlds are: each entity once, null never, each alive entity found.
-use Rattle.std.proofs.Common.{◌≡◌, ℕ, ◌+◌, ◌<◌, ◌≤◌, ◌⊎◌, inl, inr, nat_eq, nat_lt, Bool, true, false, cond, List, [], ◌∷◌, map, filter, find, Option, Some, None, refl, sym, ap, ◌∙◌, subst, arith, eqb-true, eq-eqb, ltb-true}
+use Rattle.std.proofs.Common.{◌≡◌, ℕ, ◌+◌, ◌<◌, ◌≤◌, inl, inr, nat_lt, Bool, true, false, cond, List, [], ◌∷◌, find, Option, Some, None, refl, sym, ap, ◌∙◌, arith, eq-eqb, ltb-true}
 use Rattle.ent_types.specs.declared.entity.Entity.{Entity}
 use Rattle.ent_types.specs.declared.type_info.TypeInfo.{TypeInfo}
 use Rattle.ent_types.specs.Fitting.{null_entity}
@@ -9,7 +9,7 @@ use Rattle.chunk_layout.proofs.Sublists.{IsSublist-map, IsSublist-filter, capaci
 use Rattle.world_model.specs.Members.{In, one_if, tally}
 use Rattle.world_model.specs.World.{World, capacity}
 use Rattle.world_model.specs.Found.{Found, placed, is_of, found, has_index}
-use Rattle.world_model.specs.Lawful.{is_free_at, IsSound, IsLawful, HasRoomForParts}
+use Rattle.world_model.specs.Lawful.{is_free_at, IsLawful, HasRoomForParts}
 use Rattle.world_laws.proofs.Members.{find_in, find_passes, member_counts}
 use Rattle.world_laws.proofs.Same.{entity_is, entity_self}
 use Rattle.world_laws.proofs.Sound.{one_at_most}
@@ -46,17 +46,21 @@ module _ (capacity : List ℕ → ℕ) (w : World) (l : IsLawful capacity w) whe
       only : (o : Option Found) → o ≡ Some y → o ≡ Some x → x ≡ y
       only o e f = let both : Some x ≡ Some y = sym f ∙ e in cc
 
+  -- no entity with version 0 is alive
+  pub zero_dead : (e : Entity) → e.version ≡ 0 → found e w.blocks ≡ None
+  zero_dead e is_zero = step (found e w.blocks) refl
+    where
+      step : (o : Option Found) → found e w.blocks ≡ o → o ≡ None
+      step None is = refl
+      step (Some x) is =
+          let same : e ≡ x.row.entity = entity_is e x.row.entity (find_passes (is_of e) x (placed w.blocks) is) in
+          let one = (l.rows x (find_in (is_of e) x (placed w.blocks) is)).version.from_one in
+          let zero : x.row.entity.version ≡ 0 = ap (λ (d : Entity). d.version) (sym same) ∙ is_zero in
+          absurd (omega arith)
+
   -- null is never alive
   pub null_dead : found null_entity w.blocks ≡ None
-  null_dead = step (found null_entity w.blocks) refl
-    where
-      step : (o : Option Found) → found null_entity w.blocks ≡ o → o ≡ None
-      step None e = refl
-      step (Some x) e =
-          let same : null_entity ≡ x.row.entity = entity_is null_entity x.row.entity (find_passes (is_of null_entity) x (placed w.blocks) e) in
-          let one = (l.rows x (find_in (is_of null_entity) x (placed w.blocks) e)).version.from_one in
-          let zero : x.row.entity.version ≡ 0 = ap (λ (d : Entity). d.version) (sym same) in
-          absurd (omega arith)
+  null_dead = zero_dead null_entity refl
 
   -- an alive entity has an index that was made
   pub index_made : (x : Found) → In x (placed w.blocks) → x.row.entity.index < w.made

@@ -97,7 +97,7 @@ placed_moved now rs change (b ∷ bs) =
     ap₂ (λ xs ys. xs ++ ys) (placed_rows rs change b.home b.rows) (placed_moved now rs change bs)
     ∙ sym (map_append (found_moved rs change) (placed_in b.home b.rows) (placed bs))
 
-perm_map : {X Y : Type 0} (f : X → Y) {xs ys : List X} → Perm X xs ys → Perm Y (map f xs) (map f ys)
+pub perm_map : {X Y : Type 0} (f : X → Y) {xs ys : List X} → Perm X xs ys → Perm Y (map f xs) (map f ys)
 perm_map f empty = empty
 perm_map f (keep x p) = keep (f x) (perm_map f p)
 perm_map f (swap x y zs) = swap (f x) (f y) (map f zs)

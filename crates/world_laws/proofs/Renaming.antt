@@ -1,5 +1,5 @@
 -- Each alive entity of a scene gets an id of its own, in order of indexes, and every other one becomes null.
-use Rattle.std.proofs.Common.{◌≡◌, ℕ, suc, ◌+◌, ◌≤◌, ◌⊎◌, inl, inr, Bool, true, false, ◌&&◌, cond, nat_eq, List, [], ◌∷◌, map, length, find, Option, Some, None, option_map, refl, sym, ap, ap₂, ◌∙◌, subst, arith}
+use Rattle.std.proofs.Common.{◌≡◌, ℕ, ◌+◌, ◌≤◌, inl, inr, Bool, true, false, cond, List, [], ◌∷◌, map, length, find, Some, None, option_map, refl, sym, ap, ap₂, ◌∙◌, subst, arith}
 use Rattle.std.specs.Prelude.{unwrap_or}
 use Rattle.ent_types.specs.declared.entity.Entity.{Entity}
 use Rattle.ent_types.specs.Fitting.{null_entity}
@@ -11,8 +11,8 @@ use Rattle.world_model.specs.Ids.{next_ids}
 use Rattle.world_model.specs.Scenes.{Renaming, renamings, renamed, arrivals}
 use Rattle.world_model.specs.Lawful.{IsLawful}
 use Rattle.world_laws.proofs.Perms.{Perm, perm_back, perm_in, perm_tally, perm_length}
-use Rattle.world_laws.proofs.Members.{in_map, map_in, length_map, member_counts}
-use Rattle.world_laws.proofs.Same.{entity_is, entity_self}
+use Rattle.world_laws.proofs.Members.{map_in, length_map, member_counts}
+use Rattle.world_laws.proofs.Same.{entity_self}
 use Rattle.world_laws.proofs.Sound.{one_at_most}
 use Rattle.world_laws.proofs.ByIndex.{found_by_index_perm}
 use Rattle.world_laws.proofs.Taking.{length_ids}
@@ -25,7 +25,7 @@ once_less : (e : Entity) (es : List Entity) → AreOnce (e ∷ es) → AreOnce e
 once_less e es once d = let o = once d in omega arith
 
 -- one behind another is another one
-apart : (d e : Entity) (es : List Entity) → AreOnce (e ∷ es) → In d es → same_entity d e ≡ false
+pub apart : (d e : Entity) (es : List Entity) → AreOnce (e ∷ es) → In d es → same_entity d e ≡ false
 apart d e es once i = step (same_entity d e) refl (once d)
   where
     step : (b : Bool) → same_entity d e ≡ b → one_if b + tally (same_entity d) es ≤ 1 → b ≡ false
@@ -34,10 +34,10 @@ apart d e es once i = step (same_entity d e) refl (once d)
 
 -- ---- each entity becomes the one at its place
 
-renamed_behind : (d e to : Entity) (rs : List Renaming) → same_entity d e ≡ false → renamed ((record { from = e; to = to }) ∷ rs) d ≡ renamed rs d
+pub renamed_behind : (d e to : Entity) (rs : List Renaming) → same_entity d e ≡ false → renamed ((record { from = e; to = to }) ∷ rs) d ≡ renamed rs d
 renamed_behind d e to rs other = ap (λ b. unwrap_or (option_map (λ (r : Renaming). r.to) (cond b (Some (record { from = e; to = to })) (find (λ (r : Renaming). same_entity d r.from) rs))) null_entity) other
 
-renamed_here : (e to : Entity) (rs : List Renaming) → renamed ((record { from = e; to = to }) ∷ rs) e ≡ to
+pub renamed_here : (e to : Entity) (rs : List Renaming) → renamed ((record { from = e; to = to }) ∷ rs) e ≡ to
 renamed_here e to rs = ap (λ b. unwrap_or (option_map (λ (r : Renaming). r.to) (cond b (Some (record { from = e; to = to })) (find (λ (r : Renaming). same_entity e r.from) rs))) null_entity) (entity_self e)
 
 map_same : {X Y : Type 0} (f g : X → Y) (xs : List X) → ((x : X) → In x xs → f x ≡ g x) → map f xs ≡ map g xs

@@ -2,7 +2,7 @@
 //! does nothing, whose contract is the law.
 #![tactic(auto)]
 
-ghost use Rattle.std.specs.Prelude.{◌≡◌, ℕ, ◌<◌, ◌≤◌, true, List, map, pos, None, Some};
+ghost use Rattle.std.specs.Prelude.{◌≡◌, ℕ, ◌<◌, ◌≤◌, true, List, [], map, length, slice_get, pos, None, Some};
 ghost use Rattle.ent_types.specs.declared.entity.Entity.{Entity};
 ghost use Rattle.ent_types.specs.declared.kinds.FieldKind.TheVariants.{I64};
 ghost use Rattle.ent_types.specs.declared.type_info.TypeInfo.{TypeInfo};
@@ -11,12 +11,13 @@ ghost use Rattle.ent_types.specs.Fitting.{null_entity, fits_field};
 ghost use Rattle.ent_types.specs.Registries.{IsLawfulRegistry};
 ghost use Rattle.world_model.specs.Members.{In, AreDistinct};
 ghost use Rattle.world_model.specs.World.{World, capacity};
-ghost use Rattle.world_model.specs.Found.{Found, placed, found, alive_count, entities_by_index};
+ghost use Rattle.world_model.specs.Found.{Found, placed, found, found_by_index, alive_count, entities_by_index};
 ghost use Rattle.world_model.specs.Ids.{room, next_ids};
 ghost use Rattle.world_model.specs.Operations.{Operation, operate};
 ghost use Rattle.world_model.specs.Lawful.{IsLawful, HasRoomForParts, Suits};
 ghost use Rattle.world_model.specs.Versions.{world_versions, answer_versions, IsLawfulCode};
-ghost use Rattle.world_model.specs.Scenes.{Node, IsLawfulNode, built, renamed, value_renamed, arrivals, row_moved, attached, moved};
+ghost use Rattle.world_model.specs.Scenes.{Node, IsLawfulNode, built, node_renamings, renamings, renamed, value_renamed, arrivals, row_moved, attached, moved};
+ghost use Rattle.world_laws.specs.SceneRows.{AreLawfulNodes, file_entities, file_rows};
 
 /// Where a block has room for rows of some types, it has room for rows of a part of them.
 #[tactic(auto, using(crate::proofs::Meanings::capacity_fits))]
@@ -37,9 +38,11 @@ pub fn each_entity_is_there_once()
         → x.row.entity.index ≡ y.row.entity.index → x ≡ y }
 {}
 
-/// In a lawful world the null entity isn't alive, nor is an entity that is free, and the index of an alive one was made.
+/// In a lawful world the null entity isn't alive, nor is any other entity with version 0, nor one that is free; and the index of
+/// an alive one was made.
 pub fn who_is_not_alive()
     ensures null { (capacity : List ℕ → ℕ) (w : World) → IsLawful capacity w → found null_entity w.blocks ≡ None }
+    ensures zero { (capacity : List ℕ → ℕ) (w : World) → IsLawful capacity w → (e : Entity) → e.version ≡ 0 → found e w.blocks ≡ None }
     ensures free { (capacity : List ℕ → ℕ) (w : World) → IsLawful capacity w → (e : Entity) → In e w.free → found e w.blocks ≡ None }
     ensures made { (capacity : List ℕ → ℕ) (w : World) → IsLawful capacity w → (x : Found) → In x (placed w.blocks) → x.row.entity.index < w.made }
 {}
@@ -97,4 +100,36 @@ pub fn moved_scenes_keep_rows()
         → found (renamed (arrivals w scene) x.row.entity) (moved w scene).blocks ≡ Some (record x { row = row_moved (arrivals w scene) (value_renamed (arrivals w scene)) x.row }) }
     ensures world { (capacity : List ℕ → ℕ) (w scene : World) → IsLawful capacity w → IsLawful capacity scene → scene.registry ≡ w.registry → alive_count scene ≤ room w
         → (x : Found) → In x (placed w.blocks) → found x.row.entity (moved w scene).blocks ≡ Some x }
+{}
+
+/// In the world that is built of a scene's nodes, the rows by index are those of the nodes in file order. The node at place k
+/// is the entity k:1. A reference to a node follows it, and every other one is null.
+pub fn built_scenes_keep_file_order()
+    ensures rows { (capacity : List ℕ → ℕ) → HasRoomForParts capacity → (registry : List TypeInfo) → IsLawfulRegistry registry
+        → (load : ℕ) → fits_field I64 (Int (pos load)) ≡ true → (nodes : List Node) → AreLawfulNodes capacity registry load nodes
+        → found_by_index (built capacity registry nodes load) ≡ file_rows registry load nodes (next_ids (length nodes) [] 0 1) }
+    ensures names { (capacity : List ℕ → ℕ) (registry : List TypeInfo) (load : ℕ) (nodes : List Node) → AreLawfulNodes capacity registry load nodes
+        → map (renamed (node_renamings nodes)) (file_entities nodes) ≡ next_ids (length nodes) [] 0 1 }
+    ensures fresh { (n k : ℕ) → k < n → slice_get (next_ids n [] 0 1) k ≡ Some (record { index = k; version = 1 }) }
+{}
+
+/// A scene that is built of nodes and moved into a world: each node gets an id, in file order, and its row is found by that
+/// id. The ids are new and distinct. A reference to a node becomes the node's id, and every other one becomes null.
+pub fn scenes_arrive_in_file_order()
+    ensures rows { (capacity : List ℕ → ℕ) → HasRoomForParts capacity → (w : World) → IsLawful capacity w
+        → (load : ℕ) → fits_field I64 (Int (pos load)) ≡ true → (nodes : List Node) → AreLawfulNodes capacity w.registry load nodes → length nodes ≤ room w
+        → (x : Found) → In x (file_rows w.registry load nodes (next_ids (length nodes) w.free w.made w.first_entity_version))
+        → found x.row.entity (moved w (built capacity w.registry nodes load)).blocks ≡ Some x }
+    ensures count { (capacity : List ℕ → ℕ) → HasRoomForParts capacity → (w : World) → IsLawful capacity w
+        → (load : ℕ) → fits_field I64 (Int (pos load)) ≡ true → (nodes : List Node) → AreLawfulNodes capacity w.registry load nodes
+        → alive_count (built capacity w.registry nodes load) ≡ length nodes }
+    ensures names { (capacity : List ℕ → ℕ) (w : World) (load : ℕ) (nodes : List Node) → AreLawfulNodes capacity w.registry load nodes
+        → map (renamed (renamings (file_entities nodes) (next_ids (length nodes) w.free w.made w.first_entity_version))) (file_entities nodes)
+        ≡ next_ids (length nodes) w.free w.made w.first_entity_version }
+    ensures others { (nodes : List Node) (ids : List Entity) (e : Entity) → (In e (file_entities nodes) → ⊥)
+        → renamed (renamings (file_entities nodes) ids) e ≡ null_entity }
+    ensures new { (capacity : List ℕ → ℕ) (w : World) → IsLawful capacity w → (n : ℕ) (e : Entity) → In e (next_ids n w.free w.made w.first_entity_version)
+        → found e w.blocks ≡ None }
+    ensures distinct { (capacity : List ℕ → ℕ) (w : World) → IsLawful capacity w → (n : ℕ)
+        → AreDistinct (map (λ (e : Entity). e.index) (next_ids n w.free w.made w.first_entity_version)) }
 {}
