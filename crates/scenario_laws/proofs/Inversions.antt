@@ -9,7 +9,7 @@ use Rattle.scenario_record.specs.declared.fault.Cause.TheVariants.{NumberRange, 
 use Rattle.scenario_record.specs.declared.fault.BadScenario.{BadScenario}
 use Rattle.scenario_record.specs.Faults.{bad}
 use Rattle.scenario_record.specs.Readings.{Reading, under, at_place, ◌>>=◌, changed, unless, whole_path, fault_if}
-use Rattle.scenario_read.specs.ReadKeys.{required_value, required, value_or, optional, number, item_count, few_items, list, list_up_to, each_from, each_up_to, each_over}
+use Rattle.scenario_tables.specs.ReadKeys.{required_value, required, value_or, optional, number, item_count, few_items, list, list_up_to, each_from, each_up_to, each_over}
 
 -- what was read
 abbrev pub given : {A : Type 0} → A → Reading A

@@ -6,12 +6,13 @@ use Rattle.ent_types.specs.Registries.{IsLawfulRegistry}
 use Rattle.scenario_record.specs.declared.record.Scenario.{Scenario}
 use Rattle.scenario_record.specs.Readings.{◌>>=◌}
 use Rattle.ent_types.specs.declared.type_info.TypeInfo.{TypeInfo}
-use Rattle.scenario_read.specs.ReadKeys.{unknown_key, required, optional, number, each_up_to}
-use Rattle.scenario_read.specs.ReadGroups.{group}
-use Rattle.scenario_read.specs.ReadSystems.{system}
-use Rattle.scenario_read.specs.ReadEvents.{event}
-use Rattle.scenario_read.specs.ReadStages.{has_key, has_any, unbuilt_at_top, is_placed, is_unbuilt}
-use Rattle.scenario_read.specs.ReadScenario.{numbers, types, spawns, schedule, known_at_top, top_keys, top_table, document_of, read_document, scenario_of}
+use Rattle.scenario_tables.specs.ReadKeys.{unknown_key, required, optional, number, each_up_to}
+use Rattle.scenario_tables.specs.ReadGroups.{group}
+use Rattle.scenario_tables.specs.ReadSystems.{system}
+use Rattle.scenario_tables.specs.ReadEvents.{event}
+use Rattle.scenario_tables.specs.ReadStages.{has_key, has_any, unbuilt_at_top, is_placed, is_unbuilt}
+use Rattle.scenario_tables.specs.ReadTop.{numbers, types, spawns, schedule, known_at_top, top_keys, top_table}
+use Rattle.scenario_read.specs.ReadScenario.{document_of, read_document, scenario_of}
 use Rattle.scenario_check.specs.Read.{IsRead}
 use Rattle.scenario_laws.proofs.Registries.{types_ok}
 use Rattle.scenario_laws.proofs.Inversions.{then_ok, ok_same, unless_ok, whole_ok, required_ok, default_ok, number_ok, optional_up_to_ok}

@@ -12,9 +12,9 @@ use Rattle.ent_types.specs.Registries.{type_named, built_in_types, IsLawfulRegis
 use Rattle.ent_types.proofs.RegistryLemmas.{IsLawfulRegistry-push, IsLawfulRegistry-built_in}
 use Rattle.scenario_record.specs.declared.fault.Cause.TheVariants.{BadShape, DuplicateName}
 use Rattle.scenario_record.specs.Readings.{under, ◌>>=◌, unless, fault_if}
-use Rattle.scenario_read.specs.ReadKeys.{known_table, required, optional, truth, text, name, list_up_to, each_over}
-use Rattle.scenario_read.specs.ReadTypes.{kind, field_in, one_more_field, fields, new_type, type_keys, type_in, one_more_type, registry_of}
-use Rattle.scenario_read.specs.ReadScenario.{types}
+use Rattle.scenario_tables.specs.ReadKeys.{known_table, required, optional, truth, text, name, list_up_to, each_over}
+use Rattle.scenario_tables.specs.ReadTypes.{kind, field_in, one_more_field, fields, new_type, type_keys, type_in, one_more_type, registry_of}
+use Rattle.scenario_tables.specs.ReadTop.{types}
 use Rattle.scenario_laws.proofs.Inversions.{then_ok, ok_same, under_ok, fault_ok, optional_ok, list_up_to_ok, each_over_ok}
 
 -- ---- fields

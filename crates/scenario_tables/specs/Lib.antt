@@ -1,0 +1,12 @@
+pub mod ReadKeys
+pub mod ReadTypes
+pub mod ReadTypeLists
+pub mod ReadTexts
+pub mod ReadSpawns
+pub mod ReadGroups
+pub mod ReadCommands
+pub mod ReadQueries
+pub mod ReadSystems
+pub mod ReadEvents
+pub mod ReadStages
+pub mod ReadTop

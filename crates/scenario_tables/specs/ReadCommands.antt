@@ -1,0 +1,85 @@
+-- The tables of a system's commands: `buffer`, `when`, `key`, `do`.
+use Rattle.std.specs.Prelude.{ℕ, pos, ◌+◌, Bool, ◌==◌, if◌then◌else◌, List, [], ◌∷◌, ◌++◌, codes, Option, None, Some, Ok}
+use Rattle.toml.specs.Data.{Data}
+use Rattle.ent_types.specs.declared.limits.TheConstants.{MOST_COMMANDS}
+use Rattle.ent_types.specs.declared.point.Point.{Point}
+use Rattle.ent_types.specs.declared.point.Point.TheVariants.{BeginInitialization, EndInitialization, BeginSimulation, EndSimulation, BeginPresentation}
+use Rattle.ent_types.specs.declared.type_info.TypeInfo.{TypeInfo}
+use Rattle.ent_types.specs.Types.{same_name}
+use Rattle.expr_read.specs.declared.scope.Made.{Made}
+use Rattle.expr_trees.specs.declared.tree.Expr.TheVariants.{Number, Variable}
+use Rattle.expr_trees.specs.declared.tree.Variable.TheVariants.{Chunk}
+use Rattle.expr_trees.specs.declared.tree.CommandText.{CommandText}
+use Rattle.expr_trees.specs.declared.tree.CommandText.TheVariants.{Create, Destroy, Add, Set, SetShared, Remove, Enable, Disable, Instantiate}
+use Rattle.scenario_record.specs.declared.fault.Cause.TheVariants.{BadWord}
+use Rattle.scenario_record.specs.declared.record.CommandEntry.{CommandEntry}
+use Rattle.scenario_record.specs.Readings.{Reading, ◌>>=◌, or_fault}
+use Rattle.scenario_tables.specs.ReadKeys.{known_table, required, optional, text, list_up_to, each_over}
+use Rattle.scenario_tables.specs.ReadTexts.{system_expr, system_command}
+
+-- ---- `buffer`
+
+abbrev pub point_named : List ℕ → Option Point
+point_named s =
+    if same_name s (codes "BeginInitialization") then Some BeginInitialization
+    else if same_name s (codes "EndInitialization") then Some EndInitialization
+    else if same_name s (codes "BeginSimulation") then Some BeginSimulation
+    else if same_name s (codes "EndSimulation") then Some EndSimulation
+    else if same_name s (codes "BeginPresentation") then Some BeginPresentation
+    else None
+
+abbrev pub point : Data → Reading Point
+point d = text d >>= λ s. or_fault BadWord (point_named s)
+
+-- ---- the names that earlier commands make
+
+-- the place of a point in a frame
+abbrev pub point_place : Point → ℕ
+point_place BeginInitialization = 0
+point_place EndInitialization = 1
+point_place BeginSimulation = 2
+point_place EndSimulation = 3
+point_place BeginPresentation = 4
+
+abbrev pub same_point : Point → Point → Bool
+same_point p q = point_place p == point_place q
+
+abbrev pub name_made : CommandText → Option (List ℕ)
+name_made (Create name parts) = Some name
+name_made (Instantiate name source) = Some name
+name_made (Destroy r) = None
+name_made (Add r p) = None
+name_made (Set r p) = None
+name_made (SetShared r p) = None
+name_made (Remove r ty) = None
+name_made (Enable r ty) = None
+name_made (Disable r ty) = None
+
+abbrev pub with_made : ℕ → Bool → Option (List ℕ) → List Made → List Made
+with_made number same None made = made
+with_made number same (Some n) made = record { name = n; number = number; same_buffer = same } ∷ made
+
+-- what the commands make, where the first has this number, as a command into the buffer sees it
+abbrev pub made_from : ℕ → Point → List CommandEntry → List Made
+made_from i buffer [] = []
+made_from i buffer (c ∷ cs) = with_made i (same_point c.buffer buffer) (name_made c.act) (made_from (i + 1) buffer cs)
+
+-- ---- the table
+
+unfoldable pub command : List TypeInfo → List ℕ → List CommandEntry → Data → Reading CommandEntry
+command registry bound earlier d =
+    known_table (codes "buffer" ∷ codes "when" ∷ codes "key" ∷ codes "do" ∷ []) d >>= λ ms.
+    optional (codes "buffer") EndSimulation point ms >>= λ buffer.
+    optional (codes "when") (Number (pos 1)) (system_expr registry bound) ms >>= λ when.
+    optional (codes "key") (Variable Chunk) (system_expr registry bound) ms >>= λ key.
+    required (codes "do") (system_command registry bound (made_from 0 buffer earlier)) ms >>= λ act.
+    Ok (record { buffer = buffer; when = when; key = key; act = act })
+
+-- ---- the list
+
+-- the commands with those before them
+abbrev pub one_more_command : List TypeInfo → List ℕ → List CommandEntry → Data → Reading (List CommandEntry)
+one_more_command registry bound earlier d = command registry bound earlier d >>= λ c. Ok (earlier ++ c ∷ [])
+
+abbrev pub command_list : List TypeInfo → List ℕ → Data → Reading (List CommandEntry)
+command_list registry bound d = list_up_to MOST_COMMANDS d >>= each_over (one_more_command registry bound) [] 0

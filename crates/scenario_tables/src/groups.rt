@@ -1,0 +1,97 @@
+//! The keys that place a child among its siblings, and groups.
+ghost use Rattle.std.specs.Prelude.{◌≡◌};
+ghost use Rattle.toml.specs.View.{table_view};
+ghost use Rattle.scenario_record.specs.Readings.{Answers};
+ghost use Rattle.scenario_tables.specs.ReadGroups.{placement, in_two_bands, default_group, group};
+
+use crate::form::{Form, ListOf, optional, required};
+use crate::keys::{NAMES, NameForm, TruthForm, known_table};
+use ent_types::limits::MOST_GROUPS;
+use ent_types::{Name, Sequence};
+use scenario_record::{Cause, GroupEntry, ScenarioFault, bad};
+use std::alloc::Global;
+use toml::{Table, Value};
+
+/// The siblings that a child comes before and after, and its band.
+#[derive(Drop)]
+pub(crate) struct Placement {
+    /// The siblings that it comes before.
+    pub(crate) before: Sequence<Name>,
+    /// The siblings that it comes after.
+    pub(crate) after: Sequence<Name>,
+    /// Whether it comes before the siblings that aren't marked so.
+    pub(crate) first: bool,
+    /// Whether it comes after the siblings that aren't marked so.
+    pub(crate) last: bool,
+}
+
+/// Reads the keys that place a child among its siblings.
+pub(crate) fn placement_of(alloc: Global, table: &Table) -> Result<Placement, ScenarioFault>
+    ensures { Answers (placement (table_view table.now)) result }
+{
+    let before = optional(alloc, "before", Sequence::new(alloc), &NAMES, table)?;
+    let after = optional(alloc, "after", Sequence::new(alloc), &NAMES, table)?;
+    let first = optional(alloc, "first", false, &TruthForm, table)?;
+    let last = optional(alloc, "last", false, &TruthForm, table)?;
+    Ok(Placement {
+        before,
+        after,
+        first,
+        last,
+    })
+}
+
+impl Placement {
+    /// `true` if it puts a child both first and last, which is refused.
+    pub(crate) fn is_in_two_bands(&self) -> bool
+        ensures { result ≡ in_two_bands self.now }
+    {
+        self.first && self.last
+    }
+}
+
+/// Returns the group of a child that names none.
+pub(crate) fn default_group() -> Name
+    ensures { result ≡ default_group }
+{
+    match Name::of(b"Simulation") {
+        Some(name) => name,
+        None => unreachable!(),
+    }
+}
+
+/// A group.
+#[derive(Drop)]
+pub(crate) struct GroupForm;
+
+impl Form for GroupForm {
+    type Out = GroupEntry;
+
+    ghost reads = { λ _ d. group d };
+
+    #[tactic(auto, unfolding(crate::specs::ReadGroups::group))]
+    fn read(&self, alloc: Global, value: &Value) -> Result<GroupEntry, ScenarioFault> {
+        let known = ["name", "parent", "before", "after", "first", "last"];
+        let table = known_table(alloc, &known, value)?;
+        let name = required(alloc, "name", &NameForm, table)?;
+        let parent = optional(alloc, "parent", default_group(), &NameForm, table)?;
+        let placement = placement_of(alloc, table)?;
+        if placement.is_in_two_bands() {
+            return Err(bad(alloc, Cause::BadShape));
+        }
+        Ok(GroupEntry {
+            name,
+            parent,
+            before: placement.before,
+            after: placement.after,
+            first: placement.first,
+            last: placement.last,
+        })
+    }
+}
+
+/// The groups of a scenario.
+pub(crate) const GROUPS: ListOf<GroupForm> = ListOf {
+    most: MOST_GROUPS,
+    item: GroupForm,
+};

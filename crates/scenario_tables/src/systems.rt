@@ -1,0 +1,223 @@
+//! Systems, as a scenario declares them.
+ghost use Rattle.std.specs.Prelude.{◌≡◌};
+ghost use Rattle.toml.specs.View.{table_view};
+ghost use Rattle.scenario_record.specs.Readings.{Answers};
+ghost use Rattle.scenario_tables.specs.ReadQueries.{bound_types};
+ghost use Rattle.scenario_tables.specs.ReadSystems.{heading, acts, body, system_of, system};
+
+use crate::commands::CommandsForm;
+use crate::form::{Form, ListOf, optional, required};
+use crate::groups::{Placement, default_group, placement_of};
+use crate::keys::{NameForm, NumberForm, known_table};
+use crate::queries::{Clauses, Filters, bound_types, clauses_of, filters_of};
+use crate::texts::{AssignText, SwitchText, SystemText};
+use ent_types::limits::{MOST_ASSIGNS, MOST_FRAMES, MOST_SWITCHES};
+use ent_types::{Name, Registry, Sequence, TypeSet};
+use expr_trees::{Assign, Switch};
+use scenario_record::{Cause, CommandEntry, ScenarioFault, SystemEntry, bad};
+use std::alloc::Global;
+use toml::{Table, Value};
+
+/// The keys of a system, in reading order.
+const KEYS: [&str; 20] = [
+    "name",
+    "group",
+    "before",
+    "after",
+    "first",
+    "last",
+    "every",
+    "all",
+    "any",
+    "none",
+    "disabled",
+    "absent",
+    "include_disabled",
+    "include_prefab",
+    "changed",
+    "order_changed",
+    "shared",
+    "set",
+    "enable",
+    "command",
+];
+
+/// Which system it is, and when it runs.
+#[derive(Drop)]
+struct Heading {
+    /// Its name.
+    name: Name,
+    /// The group that it is a child of.
+    group: Name,
+    /// Its place among its siblings.
+    placement: Placement,
+    /// It runs once in this number of frames.
+    every: u32,
+}
+
+fn heading_of(alloc: Global, table: &Table) -> Result<Heading, ScenarioFault>
+    ensures { Answers (heading (table_view table.now)) result }
+{
+    let frames = NumberForm {
+        low: 1,
+        high: MOST_FRAMES,
+    };
+    let name = required(alloc, "name", &NameForm, table)?;
+    let group = optional(alloc, "group", default_group(), &NameForm, table)?;
+    let placement = placement_of(alloc, table)?;
+    let every = optional(alloc, "every", 1, &frames, table)?;
+    Ok(Heading {
+        name,
+        group,
+        placement,
+        every,
+    })
+}
+
+/// The acts of a system on each row, in this order.
+#[derive(Drop)]
+struct Acts {
+    /// The assignments.
+    set: Sequence<Assign>,
+    /// The switches of enable bits.
+    enable: Sequence<Switch>,
+    /// The commands.
+    command: Sequence<CommandEntry>,
+}
+
+/// Reads the acts of a system on each row, which has the bound types.
+fn acts_over(
+    alloc: Global,
+    registry: &Registry,
+    bound: &TypeSet,
+    table: &Table,
+) -> Result<Acts, ScenarioFault>
+    ensures { Answers (acts registry.now bound.now (table_view table.now)) result }
+{
+    let assigns = ListOf {
+        most: MOST_ASSIGNS,
+        item: SystemText {
+            kind: AssignText,
+            registry,
+            bound,
+            made: &[],
+        },
+    };
+    let switches = ListOf {
+        most: MOST_SWITCHES,
+        item: SystemText {
+            kind: SwitchText,
+            registry,
+            bound,
+            made: &[],
+        },
+    };
+    let commands = CommandsForm { registry, bound };
+    let set = optional(alloc, "set", Sequence::new(alloc), &assigns, table)?;
+    let enable = optional(alloc, "enable", Sequence::new(alloc), &switches, table)?;
+    let command = optional(alloc, "command", Sequence::new(alloc), &commands, table)?;
+    Ok(Acts {
+        set,
+        enable,
+        command,
+    })
+}
+
+/// Reads the acts of a system on each row that its clauses select.
+fn acts_of(
+    alloc: Global,
+    registry: &Registry,
+    clauses: &Clauses,
+    table: &Table,
+) -> Result<Acts, ScenarioFault>
+    ensures { Answers (acts registry.now (bound_types clauses.now) (table_view table.now)) result }
+{
+    let bound = bound_types(clauses);
+    acts_over(alloc, registry, &bound, table)
+}
+
+/// The query of a system, and its acts.
+#[derive(Drop)]
+struct Body {
+    /// The five clauses.
+    clauses: Clauses,
+    /// Which further rows match, and which blocks are skipped.
+    filters: Filters,
+    /// The acts on each row.
+    acts: Acts,
+}
+
+fn body_of(alloc: Global, registry: &Registry, table: &Table) -> Result<Body, ScenarioFault>
+    ensures { Answers (body registry.now (table_view table.now)) result }
+{
+    let clauses = clauses_of(alloc, registry, table)?;
+    let filters = filters_of(alloc, registry, &clauses.all, table)?;
+    let acts = acts_of(alloc, registry, &clauses, table)?;
+    Ok(Body {
+        clauses,
+        filters,
+        acts,
+    })
+}
+
+fn system_of(heading: Heading, body: Body) -> SystemEntry
+    ensures { result ≡ system_of heading body }
+{
+    let Heading {
+        name,
+        group,
+        placement,
+        every,
+    } = heading;
+    let Body {
+        clauses,
+        filters,
+        acts,
+    } = body;
+    SystemEntry {
+        name,
+        group,
+        before: placement.before,
+        after: placement.after,
+        first: placement.first,
+        last: placement.last,
+        every,
+        all: clauses.all,
+        any: clauses.any,
+        none: clauses.none,
+        disabled: clauses.disabled,
+        absent: clauses.absent,
+        include_disabled: filters.include_disabled,
+        include_prefab: filters.include_prefab,
+        changed: filters.changed,
+        order_changed: filters.order_changed,
+        shared: filters.shared,
+        set: acts.set,
+        enable: acts.enable,
+        command: acts.command,
+    }
+}
+
+/// A system.
+#[derive(Drop)]
+pub(crate) struct SystemForm<'a> {
+    /// The types.
+    pub(crate) registry: &'a Registry,
+}
+
+impl<'a> Form for SystemForm<'a> {
+    type Out = SystemEntry;
+
+    ghost reads = { λ it d. system it.registry.now d };
+
+    #[tactic(auto, unfolding(crate::specs::ReadSystems::system))]
+    fn read(&self, alloc: Global, value: &Value) -> Result<SystemEntry, ScenarioFault> {
+        let table = known_table(alloc, &KEYS, value)?;
+        let heading = heading_of(alloc, table)?;
+        let body = body_of(alloc, self.registry, table)?;
+        if heading.placement.is_in_two_bands() {
+            return Err(bad(alloc, Cause::BadShape));
+        }
+        Ok(system_of(heading, body))
+    }
+}
