@@ -20,10 +20,10 @@ use Rattle.scenario_record.specs.declared.record.EventAct.TheVariants.{Operate, 
 use Rattle.scenario_record.specs.Readings.{Reading, ◌>>=◌, changed, unless, fault_if}
 use Rattle.scenario_record.specs.TextNames.{none_made, names_of_an_event}
 use Rattle.scenario_record.specs.Lawful.{IsLawfulOperation, IsLawfulAct, IsLawfulEvent}
-use Rattle.scenario_read.specs.declared.events.SceneKeys.{SceneKeys}
 use Rattle.scenario_read.specs.ReadKeys.{known_table, required, perhaps, number, text, name}
 use Rattle.scenario_read.specs.ReadTexts.{event_command}
 use Rattle.scenario_read.specs.ReadEvents.{file_name, scene_keys, load_act, lone_act, act_by, act_of, event}
+use Rattle.scenario_read.specs.Parts.{SceneKeys}
 use Rattle.read_laws.proofs.Inversions.{then_ok, changed_ok, ok_same, fault_ok, number_ok, required_found, optional_ok}
 use Rattle.read_laws.proofs.TypeLists.{name_ok}
 use Rattle.read_laws.proofs.TextsRead.{text_reading_ok, command_read}
@@ -87,7 +87,7 @@ module _ (registry : List TypeInfo) (lawful : IsLawfulRegistry registry) where
   operation_ok d c is =
       let t = then_ok _ (text d) c is in
       let read = command_read registry lawful Event [] [] names_of_an_event none_made (event_serves registry lawful) (event_reference registry lawful)
-          (omega arith) [] (λ n new. new) t.0 c (text_reading_ok (command_answer s t.0) c t.2) in
+      (omega arith) [] (λ n new. new) t.0 c (text_reading_ok (command_answer s t.0) c t.2) in
       record { fits = read.0; new = read.1 }
 
   lone_ok : (label : Option (List ℕ)) (delay : Option ℕ) (act done : EventAct) → IsLawfulAct registry act → lone_act label delay act ≡ Ok done → IsLawfulAct registry done

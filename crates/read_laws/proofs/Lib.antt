@@ -9,6 +9,7 @@ mod Queries
 mod Registries
 pub mod Scenarios
 mod ScopesServe
+mod SortedNodes
 mod SortedTables
 mod Spawns
 mod SystemTexts

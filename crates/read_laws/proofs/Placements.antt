@@ -8,11 +8,10 @@ use Rattle.scenario_record.specs.declared.fault.Cause.TheVariants.{BadShape}
 use Rattle.scenario_record.specs.declared.record.GroupEntry.{GroupEntry}
 use Rattle.scenario_record.specs.Readings.{◌>>=◌, unless, fault_if}
 use Rattle.scenario_record.specs.Lawful.{are_names, IsLawfulPlacement, IsLawfulGroup}
-use Rattle.scenario_read.specs.declared.groups.Placement.{Placement}
-use Rattle.scenario_read.specs.declared.systems.Heading.{Heading}
 use Rattle.scenario_read.specs.ReadKeys.{known_table, required, optional, number, truth, name, names}
 use Rattle.scenario_read.specs.ReadGroups.{placement, in_two_bands, default_group, group}
 use Rattle.scenario_read.specs.ReadSystems.{heading}
+use Rattle.scenario_read.specs.Parts.{Placement, Heading}
 use Rattle.read_laws.proofs.Inversions.{then_ok, ok_same, fault_ok, number_ok, required_found, optional_ok, optional_each_ok, optional_up_to_ok}
 use Rattle.read_laws.proofs.Lists.{all_from_each}
 use Rattle.read_laws.proofs.TypeLists.{name_ok}

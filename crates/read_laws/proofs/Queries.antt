@@ -19,14 +19,10 @@ use Rattle.scenario_record.specs.declared.fault.Cause.TheVariants.{NumberRange, 
 use Rattle.scenario_record.specs.Readings.{Reading, at_place, ◌>>=◌, changed, unless, fault_if}
 use Rattle.scenario_record.specs.TextNames.{are_once}
 use Rattle.scenario_record.specs.Lawful.{shared_filter_fits}
-use Rattle.scenario_read.specs.declared.queries.Clauses.{Clauses}
-use Rattle.scenario_read.specs.declared.queries.Filters.{Filters}
-use Rattle.scenario_read.specs.declared.type_lists.Allowed.{Allowed}
-use Rattle.scenario_read.specs.declared.type_lists.Allowed.TheVariants.{AnyType, Enableable, UnsharedOf, SharedOf}
-use Rattle.scenario_read.specs.declared.type_lists.Named.{Named}
 use Rattle.scenario_read.specs.ReadKeys.{optional, truth, list, members, member_count, few_members, members_up_to, item_count, each_member}
 use Rattle.scenario_read.specs.ReadTypeLists.{type_of_key, type_list}
 use Rattle.scenario_read.specs.ReadQueries.{clause, clauses, changed_types, shared_value, shared_values_from, shared_values, shared_part_of, shared_part, shared_table, filters}
+use Rattle.scenario_read.specs.Parts.{Clauses, Filters, Allowed, any_type, enableable, unshared_of, shared_of, Named}
 use Rattle.read_laws.proofs.Inversions.{then_ok, changed_ok, ok_same, fault_ok, at_place_ok, optional_ok}
 use Rattle.read_laws.proofs.Lists.{all_joined, all_below, all_from_each, once_rising, once_joined, has_type-append}
 use Rattle.read_laws.proofs.TypeLists.{IsKnown, type_of_key_ok, IsNamed, type_list_ok, clause_ok}
@@ -57,18 +53,18 @@ module _ (registry : List TypeInfo) where
 
   pub clauses_ok : (ms : Members) (c : Clauses) → clauses registry ms ≡ Ok c → AreLawfulClauses c
   clauses_ok ms c is =
-      let all = then_ok _ (clause (codes "all") registry AnyType [] ms) c is in
-      let any = then_ok _ (clause (codes "any") registry AnyType all.0.taken ms) c all.2 in
-      let none = then_ok _ (clause (codes "none") registry AnyType any.0.taken ms) c any.2 in
-      let disabled = then_ok _ (clause (codes "disabled") registry Enableable none.0.taken ms) c none.2 in
-      let absent = then_ok _ (clause (codes "absent") registry AnyType disabled.0.taken ms) c disabled.2 in
-      let off = clause_ok registry Enableable none.0.taken (codes "disabled") ms disabled.0 disabled.1 in
-      let first = one_more_clause AnyType [] [] all.0 (record { once = refl; known = refl; same = λ t. refl })
-          (clause_ok registry AnyType [] (codes "all") ms all.0 all.1) in
-      let second = one_more_clause AnyType _ all.0.taken any.0 first (clause_ok registry AnyType all.0.taken (codes "any") ms any.0 any.1) in
-      let third = one_more_clause AnyType _ any.0.taken none.0 second (clause_ok registry AnyType any.0.taken (codes "none") ms none.0 none.1) in
-      let fourth = one_more_clause Enableable _ none.0.taken disabled.0 third off in
-      let last = one_more_clause AnyType _ disabled.0.taken absent.0 fourth (clause_ok registry AnyType disabled.0.taken (codes "absent") ms absent.0 absent.1) in
+      let all = then_ok _ (clause (codes "all") registry any_type [] ms) c is in
+      let any = then_ok _ (clause (codes "any") registry any_type all.0.taken ms) c all.2 in
+      let none = then_ok _ (clause (codes "none") registry any_type any.0.taken ms) c any.2 in
+      let disabled = then_ok _ (clause (codes "disabled") registry enableable none.0.taken ms) c none.2 in
+      let absent = then_ok _ (clause (codes "absent") registry any_type disabled.0.taken ms) c disabled.2 in
+      let off = clause_ok registry enableable none.0.taken (codes "disabled") ms disabled.0 disabled.1 in
+      let first = one_more_clause any_type [] [] all.0 (record { once = refl; known = refl; same = λ t. refl })
+      (clause_ok registry any_type [] (codes "all") ms all.0 all.1) in
+      let second = one_more_clause any_type _ all.0.taken any.0 first (clause_ok registry any_type all.0.taken (codes "any") ms any.0 any.1) in
+      let third = one_more_clause any_type _ any.0.taken none.0 second (clause_ok registry any_type any.0.taken (codes "none") ms none.0 none.1) in
+      let fourth = one_more_clause enableable _ none.0.taken disabled.0 third off in
+      let last = one_more_clause any_type _ disabled.0.taken absent.0 fourth (clause_ok registry any_type disabled.0.taken (codes "absent") ms absent.0 absent.1) in
       subst AreLawfulClauses (ok_same _ c absent.2) (record { once = last.once; known = last.known; disabled = off.fits })
 
   -- ---- the filters
@@ -101,10 +97,10 @@ module _ (registry : List TypeInfo) where
 
     shared_part_ok : (key : List ℕ) (d : Data) (p : Part) → shared_part registry all key d ≡ Ok p → IsFilterPart key p
     shared_part_ok key d p is =
-        let ds = then_ok (λ es. type_of_key registry (SharedOf all) key >>= λ ty. shared_part_of registry es ty) (list d) p is in
-        let ty = then_ok (shared_part_of registry ds.0) (type_of_key registry (SharedOf all) key) p ds.2 in
+        let ds = then_ok _ (list d) p is in
+        let ty = then_ok (shared_part_of registry ds.0) (type_of_key registry (shared_of all) key) p ds.2 in
         let whole : List Value → Part = λ vs. record { ty = record { 0 = ty.0 }; values = vs } in
-        let known = type_of_key_ok registry (SharedOf all) key ty.0 ty.1 in
+        let known = type_of_key_ok registry (shared_of all) key ty.0 ty.1 in
         let fields = (type_at registry ty.0).fields in
         let vs = changed_ok whole (shared_values fields ds.0) p ty.2 in
         let counted = fault_ok (not (item_count ds.0 == length fields)) WrongCount (shared_values_from 0 fields ds.0) vs.0 vs.1 in
@@ -140,8 +136,8 @@ module _ (registry : List TypeInfo) where
 
     changed_types_ok : (d : Data) (types : List ℕ) → changed_types registry all d ≡ Ok types → AreLawfulChanged types
     changed_types_ok d types is =
-        let n = changed_ok (λ (m : Named). m.found) (type_list MOST_CHANGED registry (UnsharedOf all) [] d) types is in
-        let named = type_list_ok registry (UnsharedOf all) [] MOST_CHANGED d n.0 n.1 in
+        let n = changed_ok (λ (m : Named). m.found) (type_list MOST_CHANGED registry (unshared_of all) [] d) types is in
+        let named = type_list_ok registry (unshared_of all) [] MOST_CHANGED d n.0 n.1 in
         subst AreLawfulChanged n.2 (record { few = named.few; fit = named.fits })
 
     pub record HasLawfulFilters (f : Filters) : Type 0 where

@@ -125,7 +125,7 @@ registry_ok : (d : Data) (r : List TypeInfo) → registry_of d ≡ Ok r → IsRe
 registry_ok d r is =
     let all = then_ok (each_over one_more_type built_in_types 0) (list_up_to 253 d) r is in
     let whole = each_over_ok IsReadUpTo one_more_type 253 one_type 0 built_in_types r all.0 (omega (arith, list_up_to_ok 253 d all.0 all.1))
-        (record { lawful = IsLawfulRegistry-built_in; plain = no_buffer_built_in; counted = three }) all.2 in
+    (record { lawful = IsLawfulRegistry-built_in; plain = no_buffer_built_in; counted = three }) all.2 in
     record { lawful = whole.lawful; plain = whole.plain }
 
 pub types_ok : (ms : Members) (r : List TypeInfo) → types ms ≡ Ok r → IsReadRegistry r

@@ -14,8 +14,6 @@ use Rattle.scenario_record.specs.declared.record.Scenario.{Scenario}
 use Rattle.scenario_record.specs.declared.record.SpawnEntry.{SpawnEntry}
 use Rattle.scenario_record.specs.Readings.{◌>>=◌}
 use Rattle.scenario_record.specs.Lawful.{IsLawfulSpawn, IsLawfulGroup, IsLawfulSystem, IsLawfulEvent, IsLawfulScenario}
-use Rattle.scenario_read.specs.declared.reader.Numbers.{Numbers}
-use Rattle.scenario_read.specs.declared.reader.Schedule.{Schedule}
 use Rattle.scenario_read.specs.ReadKeys.{unknown_key, required, optional, number, each_up_to}
 use Rattle.scenario_read.specs.ReadSpawns.{spawn}
 use Rattle.scenario_read.specs.ReadGroups.{group}
@@ -23,6 +21,7 @@ use Rattle.scenario_read.specs.ReadSystems.{system}
 use Rattle.scenario_read.specs.ReadEvents.{event}
 use Rattle.scenario_read.specs.ReadStages.{is_placed, is_unbuilt}
 use Rattle.scenario_read.specs.ReadScenario.{numbers, types, spawns, schedule, known_at_top, top_keys, top_table, document_of, read_document, scenario_of}
+use Rattle.scenario_read.specs.Parts.{Numbers, Schedule}
 use Rattle.read_laws.proofs.Inversions.{then_ok, ok_same, unless_ok, whole_ok, number_ok, required_found, optional_ok, optional_each_ok, optional_up_to_ok}
 use Rattle.read_laws.proofs.SortedTables.{document_sorted}
 use Rattle.read_laws.proofs.Tables.{sorted_list_ok}

@@ -73,9 +73,9 @@ unfolding field_named no_field
 suited_there role info f i is =
     option_and_then_some (λ k. cond (suits role (kind_of_field info k)) (Some k) None) (field_named info f) i is
     (λ k found suited.
-      let (suits_k, same) = cond_some (suits role (kind_of_field info k)) k i suited in
-      let within : k < length info.fields = (position-Some (λ (g : FieldInfo). same_name f g.name) info.fields k no_field found).0 in
-      (subst (λ j. j < length info.fields) same within, subst (λ j. suits role (kind_of_field info j) ≡ true) same suits_k))
+    let (suits_k, same) = cond_some (suits role (kind_of_field info k)) k i suited in
+    let within : k < length info.fields = (position-Some (λ (g : FieldInfo). same_name f g.name) info.fields k no_field found).0 in
+    (subst (λ j. j < length info.fields) same within, subst (λ j. suits role (kind_of_field info j) ≡ true) same suits_k))
 
 pub record IsOpenField (types : List TypeInfo) (place : TextPlace) (bound : List ℕ) (role : FieldUse) (ty : TypeId) (i : ℕ) : Type 0 where
   pub known : ty.0 < length types

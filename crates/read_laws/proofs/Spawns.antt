@@ -31,12 +31,11 @@ use Rattle.scenario_record.specs.declared.record.SpawnEntry.{SpawnEntry}
 use Rattle.scenario_record.specs.Readings.{Reading, at_place, ◌>>=◌, changed, unless, fault_if}
 use Rattle.scenario_record.specs.TextNames.{are_once, none_made, value_fits, values_fit, part_fits, new_part_fits, new_parts_fit, names_of_a_spawn}
 use Rattle.scenario_record.specs.Lawful.{IsLawfulSpawn}
-use Rattle.scenario_read.specs.declared.type_lists.Allowed.TheVariants.{Spawned, EnableableOf}
-use Rattle.scenario_read.specs.declared.type_lists.Named.{Named}
 use Rattle.scenario_read.specs.ReadKeys.{known_table, optional, number, text, list, members, item_count, each_over, each_member}
 use Rattle.scenario_read.specs.ReadTexts.{spawn_expr, spawn_ref}
 use Rattle.scenario_read.specs.ReadTypeLists.{type_of_key, one_more_type, none_beside, is_allowed}
 use Rattle.scenario_read.specs.ReadSpawns.{number_value, ref_value, field_value, values_from, part_values, part_of, part, with_table, part_types, disabled_types, spawn}
+use Rattle.scenario_read.specs.Parts.{Named, spawned, enableable_of}
 use Rattle.read_laws.proofs.Inversions.{then_ok, changed_ok, ok_same, unless_ok, fault_ok, at_place_ok, number_ok, optional_ok}
 use Rattle.read_laws.proofs.Lists.{all_weaker, all_at, all_from_each, grown}
 use Rattle.read_laws.proofs.TypeLists.{IsKnown, type_of_key_ok, names_ok}
@@ -105,10 +104,10 @@ module _ (registry : List TypeInfo) (lawful : IsLawfulRegistry registry) (plain 
 
   part_ok : (key : List ℕ) (d : Data) (p : PartExpr) → part registry key d ≡ Ok p → IsSpawnPart key p
   part_ok key d p is =
-      let ds = then_ok (λ es. type_of_key registry Spawned key >>= λ ty. part_of registry es ty) (list d) p is in
-      let ty = then_ok (part_of registry ds.0) (type_of_key registry Spawned key) p ds.2 in
+      let ds = then_ok _ (list d) p is in
+      let ty = then_ok (part_of registry ds.0) (type_of_key registry spawned key) p ds.2 in
       let whole : List ValueExpr → PartExpr = λ vs. record { ty = record { 0 = ty.0 }; values = vs } in
-      let known = type_of_key_ok registry Spawned key ty.0 ty.1 in
+      let known = type_of_key_ok registry spawned key ty.0 ty.1 in
       let fields = (type_at registry ty.0).fields in
       let vs = changed_ok whole (part_values registry fields ds.0) p ty.2 in
       let counted = fault_ok (not (item_count ds.0 == length fields)) WrongCount (values_from registry 0 fields ds.0) vs.0 vs.1 in
@@ -141,12 +140,12 @@ module _ (registry : List TypeInfo) (lawful : IsLawfulRegistry registry) (plain 
 
   disabled_ok : (parts : List PartExpr) (d : Data) (types : List ℕ) → disabled_types registry (part_types parts) d ≡ Ok types → DisabledFit parts types
   disabled_ok parts d types is =
-      let step = one_more_type registry (EnableableOf (part_types parts)) in
+      let step = one_more_type registry (enableable_of (part_types parts)) in
       let n = changed_ok (λ (m : Named). m.found) (list d >>= each_over step (none_beside []) 0) types is in
       let ds = then_ok (each_over step (none_beside []) 0) (list d) n.0 n.1 in
-      let named = names_ok registry (EnableableOf (part_types parts)) [] ds.0 n.0 ds.2 in
+      let named = names_ok registry (enableable_of (part_types parts)) [] ds.0 n.0 ds.2 in
       subst (DisabledFit parts) n.2
-      (all_weaker (is_allowed registry (EnableableOf (part_types parts))) (λ t. has_type (map (λ (q : PartExpr). q.ty.0) parts) t && is_enableable_at registry t)
+      (all_weaker (λ t. has_type (part_types parts) t && is_enableable_at registry t) (λ t. has_type (map (λ (q : PartExpr). q.ty.0) parts) t && is_enableable_at registry t)
       (λ t h. let (there, may) = and_parts _ _ h in and_from _ _ (of_parts parts t there) may) n.0.found named.fits)
 
   -- ---- the table
@@ -163,7 +162,7 @@ module _ (registry : List TypeInfo) (lawful : IsLawfulRegistry registry) (plain 
       let parts = then_ok _ (optional (codes "with") [] (with_table registry) ms.0) p count.2 in
       let disabled = then_ok _ (optional (codes "disabled") [] (disabled_types registry (part_types parts.0)) ms.0) p parts.2 in
       let counted = optional_ok IsCount (codes "count") 1 (number 1 MOST_ENTITIES) ms.0 count.0 (omega arith, omega arith)
-          (λ e got. number_ok 1 MOST_ENTITIES e count.0 got) count.1 in
+      (λ e got. number_ok 1 MOST_ENTITIES e count.0 got) count.1 in
       subst (IsLawfulSpawn registry) (ok_same _ p disabled.2) (record {
         some = counted.0;
         few = counted.1;

@@ -26,11 +26,11 @@ use Rattle.scenario_record.specs.declared.record.CommandEntry.{CommandEntry}
 use Rattle.scenario_record.specs.Readings.{◌>>=◌}
 use Rattle.scenario_record.specs.TextNames.{Names, expr_fits, assign_fits, switch_fits, command_fits, names_of_a_system}
 use Rattle.scenario_record.specs.Lawful.{is_made, name_made, is_new_name, IsLawfulCommand, AreLawfulCommands}
-use Rattle.scenario_read.specs.declared.systems.Acts.{Acts}
 use Rattle.scenario_read.specs.ReadKeys.{known_table, required, optional, text, list_up_to, each_over, each_up_to, item_count}
 use Rattle.scenario_read.specs.ReadTexts.{system_expr, system_assign, system_switch, system_command}
 use Rattle.scenario_read.specs.ReadCommands.{point, made_from, command, one_more_command, command_list}
 use Rattle.scenario_read.specs.ReadSystems.{acts}
+use Rattle.scenario_read.specs.Parts.{Acts}
 use Rattle.read_laws.proofs.Inversions.{then_ok, ok_same, required_found, optional_ok, optional_each_ok, optional_up_to_ok, list_up_to_ok, each_over_ok}
 use Rattle.read_laws.proofs.Lists.{all_from_each}
 use Rattle.read_laws.proofs.MadeNames.{named_is_made, few_made, new_is_new}
@@ -125,7 +125,7 @@ module _ (registry : List TypeInfo) (lawful : IsLawfulRegistry registry) (bound 
       let all = then_ok (each_over (one_more_command registry bound) [] 0) (list_up_to MOST_COMMANDS d) cs is in
       let few = list_up_to_ok MOST_COMMANDS d all.0 all.1 in
       let whole = each_over_ok AreLawfulUpTo (one_more_command registry bound) MOST_COMMANDS one_more 0 [] cs all.0 (omega (arith, few))
-          (record { each = tt; counted = refl }) all.2 in
+      (record { each = tt; counted = refl }) all.2 in
       record { few = omega (arith, whole.counted, few); each = whole.each }
 
   -- ---- all of them

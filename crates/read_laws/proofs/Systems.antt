@@ -9,12 +9,11 @@ use Rattle.scenario_record.specs.declared.fault.Cause.TheVariants.{BadShape}
 use Rattle.scenario_record.specs.declared.record.SystemEntry.{SystemEntry}
 use Rattle.scenario_record.specs.Readings.{◌>>=◌, unless, fault_if}
 use Rattle.scenario_record.specs.Lawful.{IsLawfulSystem}
-use Rattle.scenario_read.specs.declared.queries.Clauses.{Clauses}
-use Rattle.scenario_read.specs.declared.systems.Body.{Body}
 use Rattle.scenario_read.specs.ReadKeys.{known_table}
 use Rattle.scenario_read.specs.ReadGroups.{in_two_bands}
 use Rattle.scenario_read.specs.ReadQueries.{clauses, bound_types, filters}
 use Rattle.scenario_read.specs.ReadSystems.{heading, acts, body, system_of, known_in_a_system, system}
+use Rattle.scenario_read.specs.Parts.{Clauses, Body}
 use Rattle.read_laws.proofs.Inversions.{then_ok, ok_same, fault_ok}
 use Rattle.read_laws.proofs.Lists.{grown}
 use Rattle.read_laws.proofs.Tables.{known_table_sorted}

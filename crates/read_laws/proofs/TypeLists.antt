@@ -15,11 +15,10 @@ use Rattle.ent_types.proofs.TypeSetLemmas.{or_left_comm, has_type-with_type, IsR
 use Rattle.scenario_record.specs.declared.fault.Cause.{Cause}
 use Rattle.scenario_record.specs.declared.fault.Cause.TheVariants.{BadName, BadKind, UnknownName, DuplicateName}
 use Rattle.scenario_record.specs.Readings.{Reading, ◌>>=◌, unless, or_fault, fault_if}
-use Rattle.scenario_read.specs.declared.type_lists.Allowed.{Allowed}
-use Rattle.scenario_read.specs.declared.type_lists.Named.{Named}
 use Rattle.scenario_read.specs.ReadKeys.{text, name, name_in, optional, list_up_to, each_over, item_count}
 use Rattle.scenario_read.specs.ReadTypeLists.{is_allowed, allowed_type, known_type, type_of_key, new_type_in, type_of_item, found_one, one_more_type, none_beside, type_list}
 use Rattle.scenario_read.specs.ReadQueries.{clause}
+use Rattle.scenario_read.specs.Parts.{Allowed, Named}
 use Rattle.read_laws.proofs.Inversions.{then_ok, ok_same, or_fault_ok, fault_ok, optional_ok, list_up_to_ok, each_over_ok}
 use Rattle.read_laws.proofs.Lists.{all_with_type}
 
