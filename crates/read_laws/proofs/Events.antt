@@ -1,9 +1,9 @@
 -- Each event that is read is lawful.
-use Rattle.std.proofs.Common.{ℕ, ◌≡◌, ◌≤◌, List, [], ◌∷◌, Bool, true, false, not, ◌&&◌, Option, None, Some, Ok, length, refl, ap, subst, arith}
+use Rattle.std.proofs.Common.{ℕ, ◌≡◌, ◌≤◌, List, [], ◌∷◌, true, not, ◌&&◌, Option, None, Some, Ok, length, subst, arith}
 use Rattle.std.specs.Prelude.{codes, nat_le}
 use Rattle.std.proofs.lemmas.Bool.{and_parts, not-false, leb-true}
 use Rattle.std.specs.Option.{unwrap_or}
-use Rattle.toml.specs.Data.{Data, Members, get_member}
+use Rattle.toml.specs.Data.{Data, Members}
 use Rattle.ent_types.specs.declared.limits.TheConstants.{MOST_FRAMES, LONGEST_FILE_NAME}
 use Rattle.ent_types.specs.declared.type_info.TypeInfo.{TypeInfo}
 use Rattle.ent_types.specs.Names.{is_name}
@@ -17,7 +17,7 @@ use Rattle.scenario_record.specs.declared.fault.Cause.TheVariants.{BadName}
 use Rattle.scenario_record.specs.declared.record.EventEntry.{EventEntry}
 use Rattle.scenario_record.specs.declared.record.EventAct.{EventAct}
 use Rattle.scenario_record.specs.declared.record.EventAct.TheVariants.{Operate, Load, Unload}
-use Rattle.scenario_record.specs.Readings.{Reading, ◌>>=◌, changed, unless, fault_if}
+use Rattle.scenario_record.specs.Readings.{Reading, changed}
 use Rattle.scenario_record.specs.TextNames.{none_made, names_of_an_event}
 use Rattle.scenario_record.specs.Lawful.{IsLawfulOperation, IsLawfulAct, IsLawfulEvent}
 use Rattle.scenario_read.specs.ReadKeys.{known_table, required, perhaps, number, text, name}

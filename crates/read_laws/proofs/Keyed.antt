@@ -1,5 +1,5 @@
 -- Tables whose keys are type names: each key is one type, so that none is there twice.
-use Rattle.std.proofs.Common.{ℕ, ◌≡◌, ◌+◌, List, [], ◌∷◌, Bool, true, false, not, ◌&&◌, ◌||◌, Some, Ok, length, map, Ordering, Less, Equal, Greater, nat_cmp, refl, sym, ap, ◌∙◌, subst, arith}
+use Rattle.std.proofs.Common.{ℕ, ◌≡◌, List, [], ◌∷◌, true, false, ◌&&◌, Some, Ok, length, map, Ordering, Less, Equal, Greater, nat_cmp, refl, sym, ap, ◌∙◌, subst, arith}
 use Rattle.std.specs.List.{AllByRecursion as Each}
 use Rattle.std.specs.Cmp.{tied_itself}
 use Rattle.std.specs.Ordering.{is_lt}
@@ -10,7 +10,7 @@ use Rattle.toml.specs.Data.{Data, Members, no_members, member, is_before, is_sor
 use Rattle.ent_types.specs.declared.type_info.TypeInfo.{TypeInfo}
 use Rattle.ent_types.specs.Registries.{type_named}
 use Rattle.ent_types.specs.TypeSets.{has_type}
-use Rattle.scenario_record.specs.Readings.{Reading, under, ◌>>=◌, changed}
+use Rattle.scenario_record.specs.Readings.{Reading, under, changed}
 use Rattle.scenario_record.specs.TextNames.{are_once}
 use Rattle.scenario_read.specs.ReadKeys.{each_member, member_count}
 use Rattle.read_laws.proofs.Inversions.{then_ok, changed_ok, ok_same, under_ok}

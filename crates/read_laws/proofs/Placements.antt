@@ -1,12 +1,11 @@
 -- The names and the places of groups and systems, as they are read.
-use Rattle.std.proofs.Common.{ℕ, ◌≡◌, ◌≤◌, List, [], ◌∷◌, Bool, true, false, Ok, length, refl, subst, arith}
+use Rattle.std.proofs.Common.{ℕ, ◌≡◌, ◌≤◌, List, [], ◌∷◌, true, false, Ok, length, refl, subst, arith}
 use Rattle.std.specs.Prelude.{codes}
 use Rattle.toml.specs.Data.{Data, Members}
 use Rattle.ent_types.specs.declared.limits.TheConstants.{MOST_FRAMES, MOST_ORDER_NAMES}
 use Rattle.ent_types.specs.Names.{is_name}
 use Rattle.scenario_record.specs.declared.fault.Cause.TheVariants.{BadShape}
 use Rattle.scenario_record.specs.declared.record.GroupEntry.{GroupEntry}
-use Rattle.scenario_record.specs.Readings.{◌>>=◌, unless, fault_if}
 use Rattle.scenario_record.specs.Lawful.{are_names, IsLawfulPlacement, IsLawfulGroup}
 use Rattle.scenario_read.specs.ReadKeys.{known_table, required, optional, number, truth, name, names}
 use Rattle.scenario_read.specs.ReadGroups.{placement, in_two_bands, default_group, group}

@@ -1,5 +1,5 @@
 -- Which rows a system visits, as it is read: the five clauses and the filters.
-use Rattle.std.proofs.Common.{ℕ, suc, ◌≡◌, ◌≤◌, ◌+◌, List, [], ◌∷◌, ◌++◌, Bool, true, false, not, ◌&&◌, ◌||◌, Some, Ok, length, map, refl, sym, ap, ◌∙◌, subst, arith}
+use Rattle.std.proofs.Common.{ℕ, ◌≡◌, ◌≤◌, ◌+◌, List, [], ◌∷◌, ◌++◌, true, false, not, ◌&&◌, ◌||◌, Some, Ok, length, map, refl, sym, ap, ◌∙◌, subst, arith}
 use Rattle.std.specs.Prelude.{codes, ◌==◌, nat_lt}
 use Rattle.std.specs.List.{list_all}
 use Rattle.std.proofs.lemmas.Bool.{and_from, both_ways, not-false, false_from_ne_true, eqb-true, ltb-false}
@@ -16,7 +16,7 @@ use Rattle.ent_types.specs.Registries.{type_named, type_at}
 use Rattle.ent_types.specs.TypeLookups.{is_enableable_at, is_shared_at}
 use Rattle.ent_types.specs.TypeSets.{has_type}
 use Rattle.scenario_record.specs.declared.fault.Cause.TheVariants.{NumberRange, WrongCount, TooMany}
-use Rattle.scenario_record.specs.Readings.{Reading, at_place, ◌>>=◌, changed, unless, fault_if}
+use Rattle.scenario_record.specs.Readings.{at_place, changed}
 use Rattle.scenario_record.specs.TextNames.{are_once}
 use Rattle.scenario_record.specs.Lawful.{shared_filter_fits}
 use Rattle.scenario_read.specs.ReadKeys.{optional, truth, list, members, member_count, few_members, members_up_to, item_count, each_member}
@@ -25,8 +25,8 @@ use Rattle.scenario_read.specs.ReadQueries.{clause, clauses, changed_types, shar
 use Rattle.scenario_read.specs.Parts.{Clauses, Filters, Allowed, any_type, enableable, unshared_of, shared_of, Named}
 use Rattle.read_laws.proofs.Inversions.{then_ok, changed_ok, ok_same, fault_ok, at_place_ok, optional_ok}
 use Rattle.read_laws.proofs.Lists.{all_joined, all_below, all_from_each, once_rising, once_joined, has_type-append}
-use Rattle.read_laws.proofs.TypeLists.{IsKnown, type_of_key_ok, IsNamed, type_list_ok, clause_ok}
-use Rattle.read_laws.proofs.Keyed.{Keyed, keyed_ok, keyed_count, each_keyed, keyed_once}
+use Rattle.read_laws.proofs.TypeLists.{type_of_key_ok, IsNamed, type_list_ok, clause_ok}
+use Rattle.read_laws.proofs.Keyed.{keyed_ok, keyed_count, each_keyed, keyed_once}
 use Rattle.read_laws.proofs.Tables.{members_sorted, sorted_optional_ok}
 
 module _ (registry : List TypeInfo) where

@@ -1,31 +1,27 @@
 -- Each scenario that is read is lawful.
-use Rattle.std.proofs.Common.{ℕ, ◌≡◌, ◌≤◌, ◌<◌, ◌^◌, List, [], ◌∷◌, Bool, true, false, cond, Option, None, Some, Ok, length, refl, subst, arith}
+use Rattle.std.proofs.Common.{ℕ, ◌≡◌, ◌≤◌, List, [], Bool, true, false, cond, Option, None, Some, Ok, length, refl, subst, arith}
 use Rattle.std.specs.Prelude.{codes, All}
-use Rattle.std.specs.List.{AllByRecursion as Each}
 use Rattle.std.specs.Str.{is_utf8}
 use Rattle.std.proofs.lemmas.List.Elements.{All-from_recursion}
-use Rattle.toml.specs.Data.{Data, Members, members_are_sorted}
+use Rattle.toml.specs.Data.{Members, members_are_sorted}
 use Rattle.toml.specs.Parse.{parse_document}
 use Rattle.ent_types.specs.declared.limits.TheConstants.{MOST_FRAMES, MOST_SPAWNS, MOST_GROUPS, MOST_SYSTEMS, MOST_EVENTS}
 use Rattle.ent_types.specs.declared.type_info.TypeInfo.{TypeInfo}
 use Rattle.ent_types.specs.Registries.{IsLawfulRegistry}
 use Rattle.ent_types.specs.Versions.{IsVersion}
 use Rattle.scenario_record.specs.declared.record.Scenario.{Scenario}
-use Rattle.scenario_record.specs.declared.record.SpawnEntry.{SpawnEntry}
-use Rattle.scenario_record.specs.Readings.{◌>>=◌}
 use Rattle.scenario_record.specs.Lawful.{IsLawfulSpawn, IsLawfulGroup, IsLawfulSystem, IsLawfulEvent, IsLawfulScenario}
 use Rattle.scenario_read.specs.ReadKeys.{unknown_key, required, optional, number, each_up_to}
 use Rattle.scenario_read.specs.ReadSpawns.{spawn}
 use Rattle.scenario_read.specs.ReadGroups.{group}
 use Rattle.scenario_read.specs.ReadSystems.{system}
 use Rattle.scenario_read.specs.ReadEvents.{event}
-use Rattle.scenario_read.specs.ReadStages.{is_placed, is_unbuilt}
-use Rattle.scenario_read.specs.ReadScenario.{numbers, types, spawns, schedule, known_at_top, top_keys, top_table, document_of, read_document, scenario_of}
+use Rattle.scenario_read.specs.ReadScenario.{numbers, types, spawns, schedule, known_at_top, top_keys, top_table, read_document, scenario_of}
 use Rattle.scenario_read.specs.Parts.{Numbers, Schedule}
 use Rattle.read_laws.proofs.Inversions.{then_ok, ok_same, unless_ok, whole_ok, number_ok, required_found, optional_ok, optional_each_ok, optional_up_to_ok}
 use Rattle.read_laws.proofs.SortedTables.{document_sorted}
 use Rattle.read_laws.proofs.Tables.{sorted_list_ok}
-use Rattle.read_laws.proofs.Registries.{IsReadRegistry, types_ok}
+use Rattle.read_laws.proofs.Registries.{types_ok}
 use Rattle.read_laws.proofs.Spawns.{spawn_ok}
 use Rattle.read_laws.proofs.Placements.{group_ok}
 use Rattle.read_laws.proofs.Systems.{system_ok}

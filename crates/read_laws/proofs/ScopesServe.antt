@@ -1,6 +1,6 @@
 -- The scope of a real place knows only the names of the place.
-use Rattle.std.proofs.Common.{ℕ, zero, suc, ◌≡◌, ◌+◌, ◌<◌, ◌≤◌, List, [], ◌∷◌, Bool, true, false, not, ◌&&◌, cond, Option, Some, None, length, get_or, refl, sym, ap, ◌∙◌, subst, arith}
-use Rattle.std.specs.Prelude.{codes, position, option_and_then}
+use Rattle.std.proofs.Common.{ℕ, ◌≡◌, ◌<◌, List, [], Bool, true, false, not, cond, Some, None, length, refl, sym, ap, ◌∙◌, subst, arith}
+use Rattle.std.specs.Prelude.{codes}
 use Rattle.std.proofs.lemmas.Bool.{and_parts, and_from, both_ways, ltb-true, lt-ltb, not-true}
 use Rattle.std.proofs.lemmas.Option.{none-some, cond_some, option_and_then_some}
 use Rattle.std.proofs.lemmas.List.Quantifiers.{position-Some}
@@ -23,12 +23,12 @@ use Rattle.expr_trees.specs.declared.tree.Variable.TheVariants.{Frame, Chunk, Ro
 use Rattle.expr_grammar.specs.declared.words.Call.{Call}
 use Rattle.expr_grammar.specs.declared.words.Call.TheVariants as calls
 use Rattle.expr_grammar.specs.declared.words.FieldUse.{FieldUse}
-use Rattle.expr_grammar.specs.declared.words.FieldUse.TheVariants.{Number, Entity, Looked, Assigned}
+use Rattle.expr_grammar.specs.declared.words.FieldUse.TheVariants.{Number, Entity, Looked}
 use Rattle.expr_read.specs.declared.scope.TextPlace.{TextPlace}
 use Rattle.expr_read.specs.declared.scope.TextPlace.TheVariants.{Spawn, Event, System}
 use Rattle.expr_read.specs.declared.scope.Made.{Made}
 use Rattle.expr_read.specs.ScopeOf.{is_system, is_own, system_variable, variable_of, plain_call, system_call, call_of, made_reference, own_reference, reference_of, suits, suited_field, is_open, may_name, field_of, scope_of}
-use Rattle.scenario_record.specs.TextNames.{has_values, has_field, has_number, has_ref, is_n, is_frame, none_made, ref_fits, names_of_a_system, names_without_a_row, names_of_a_spawn, names_of_an_event}
+use Rattle.scenario_record.specs.TextNames.{has_values, has_field, has_number, is_n, is_frame, none_made, ref_fits, names_of_a_system, names_without_a_row, names_of_a_spawn, names_of_an_event}
 use Rattle.read_laws.proofs.Choices.{either, nothing}
 use Rattle.read_laws.proofs.TextsFit.{Serves}
 

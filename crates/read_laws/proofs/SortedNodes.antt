@@ -6,7 +6,7 @@ use Rattle.std.proofs.lemmas.Bool.{and_parts, and_from}
 use Rattle.std.proofs.lemmas.Cmp.{nat_list_cmp_total}
 use Rattle.std.proofs.lemmas.Option.{none-some, same_Some, option_and_then_some}
 use Rattle.toml_parser.specs.Strings.{Key}
-use Rattle.toml.specs.Data.{Data, array, table, Items, no_items, item, no_members, is_before, is_sorted, items_are_sorted, members_are_sorted, same_key, push_item}
+use Rattle.toml.specs.Data.{Data, table, Items, no_items, item, no_members, is_before, is_sorted, items_are_sorted, members_are_sorted, same_key, push_item}
 use Rattle.toml.specs.Tables.{implicit, dotted, header, Node, Nodes, no_nodes, node, value, open_table, open_array, get_node, insert, replace, close, close_node, Edit, header_node, dot_node, along_header, along_dots, Definition, key_value, std_table, array_table, new_node, redefine, at_found, at_key, put}
 
 -- ---- options

@@ -1,9 +1,9 @@
 -- Each spawn that is read is lawful.
-use Rattle.std.proofs.Common.{ℕ, suc, ◌≡◌, ◌≤◌, ◌<◌, ◌+◌, List, [], ◌∷◌, Bool, true, false, not, ◌&&◌, ◌||◌, eqb, Option, Some, Ok, length, map, refl, sym, ap, ◌∙◌, subst, arith}
-use Rattle.std.specs.Prelude.{codes, ℤ, ◌==◌}
-use Rattle.std.specs.List.{list_any, list_all, AllByRecursion as Each}
+use Rattle.std.proofs.Common.{ℕ, ◌≡◌, ◌≤◌, ◌+◌, List, [], ◌∷◌, true, false, not, ◌&&◌, Some, Ok, length, map, refl, ◌∙◌, subst, arith}
+use Rattle.std.specs.Prelude.{codes, ◌==◌}
+use Rattle.std.specs.List.{list_all}
 use Rattle.std.proofs.lemmas.Bool.{and_parts, and_from, not-false, not_from_false, lt-ltb, eqb-true}
-use Rattle.toml.specs.Data.{Data, string, integer, float, boolean, datetime, array, table, Items, no_items, item, Members, is_sorted, members_are_sorted}
+use Rattle.toml.specs.Data.{Data, string, integer, float, boolean, datetime, array, table, Items, no_items, item, is_sorted}
 use Rattle.ent_types.specs.declared.kinds.FieldKind.{FieldKind}
 use Rattle.ent_types.specs.declared.kinds.FieldKind.TheVariants.{I32, I64, Ref}
 use Rattle.ent_types.specs.declared.limits.TheConstants.{MOST_ENTITIES}
@@ -13,7 +13,7 @@ use Rattle.ent_types.specs.declared.value.Value.TheVariants.{Int}
 use Rattle.ent_types.specs.Fitting.{fits_field}
 use Rattle.ent_types.specs.Registries.{type_named, type_at, plain_tag, IsLawfulRegistry}
 use Rattle.ent_types.specs.Types.{is_ref_kind, is_buffer}
-use Rattle.ent_types.specs.TypeLookups.{fields_at, is_buffer_at, is_enableable_at}
+use Rattle.ent_types.specs.TypeLookups.{is_buffer_at, is_enableable_at}
 use Rattle.ent_types.specs.TypeSets.{has_type}
 use Rattle.ent_types.proofs.Lookups.{list_any-map}
 use Rattle.ent_types.proofs.TypeNumbers.{type_named-Some}
@@ -28,18 +28,18 @@ use Rattle.expr_read.specs.ScopeOf.{scope_of}
 use Rattle.expr_read.proofs.ScopeLaws.{scope_is_lawful}
 use Rattle.scenario_record.specs.declared.fault.Cause.TheVariants.{NumberRange, WrongCount}
 use Rattle.scenario_record.specs.declared.record.SpawnEntry.{SpawnEntry}
-use Rattle.scenario_record.specs.Readings.{Reading, at_place, ◌>>=◌, changed, unless, fault_if}
-use Rattle.scenario_record.specs.TextNames.{are_once, none_made, value_fits, values_fit, part_fits, new_part_fits, new_parts_fit, names_of_a_spawn}
+use Rattle.scenario_record.specs.Readings.{at_place, ◌>>=◌, changed}
+use Rattle.scenario_record.specs.TextNames.{none_made, value_fits, values_fit, new_part_fits, new_parts_fit, names_of_a_spawn}
 use Rattle.scenario_record.specs.Lawful.{IsLawfulSpawn}
 use Rattle.scenario_read.specs.ReadKeys.{known_table, optional, number, text, list, members, item_count, each_over, each_member}
 use Rattle.scenario_read.specs.ReadTexts.{spawn_expr, spawn_ref}
-use Rattle.scenario_read.specs.ReadTypeLists.{type_of_key, one_more_type, none_beside, is_allowed}
-use Rattle.scenario_read.specs.ReadSpawns.{number_value, ref_value, field_value, values_from, part_values, part_of, part, with_table, part_types, disabled_types, spawn}
+use Rattle.scenario_read.specs.ReadTypeLists.{type_of_key, one_more_type, none_beside}
+use Rattle.scenario_read.specs.ReadSpawns.{number_value, field_value, values_from, part_values, part_of, part, with_table, part_types, disabled_types, spawn}
 use Rattle.scenario_read.specs.Parts.{Named, spawned, enableable_of}
-use Rattle.read_laws.proofs.Inversions.{then_ok, changed_ok, ok_same, unless_ok, fault_ok, at_place_ok, number_ok, optional_ok}
+use Rattle.read_laws.proofs.Inversions.{then_ok, changed_ok, ok_same, fault_ok, at_place_ok, number_ok, optional_ok}
 use Rattle.read_laws.proofs.Lists.{all_weaker, all_at, all_from_each, grown}
-use Rattle.read_laws.proofs.TypeLists.{IsKnown, type_of_key_ok, names_ok}
-use Rattle.read_laws.proofs.Keyed.{Keyed, keyed_ok, each_keyed, keyed_once}
+use Rattle.read_laws.proofs.TypeLists.{type_of_key_ok, names_ok}
+use Rattle.read_laws.proofs.Keyed.{keyed_ok, each_keyed, keyed_once}
 use Rattle.read_laws.proofs.Tables.{members_sorted, known_table_sorted, sorted_optional_ok}
 use Rattle.read_laws.proofs.TextsFit.{number_fits}
 use Rattle.read_laws.proofs.TextsRead.{text_reading_ok, expr_read, ref_read}

@@ -1,7 +1,7 @@
 -- What a system does with each row, as it is read: each text names only what its place has.
-use Rattle.std.proofs.Common.{ℕ, suc, ◌≡◌, ◌≤◌, ◌<◌, ◌+◌, ◌^◌, List, [], ◌∷◌, ◌++◌, Bool, true, Some, Ok, length, length-append, append_assoc, refl, sym, ap, ◌∙◌, subst, arith}
+use Rattle.std.proofs.Common.{ℕ, ◌≡◌, ◌≤◌, ◌<◌, ◌+◌, ◌^◌, List, [], ◌∷◌, ◌++◌, Bool, true, Ok, length, length-append, append_assoc, refl, sym, ◌∙◌, subst, arith}
 use Rattle.std.specs.Prelude.{codes, pos}
-use Rattle.std.specs.List.{list_all, AllByRecursion as Each}
+use Rattle.std.specs.List.{list_all}
 use Rattle.std.proofs.lemmas.List.{append-nil}
 use Rattle.toml.specs.Data.{Data, Members}
 use Rattle.ent_types.specs.declared.limits.TheConstants.{MOST_ASSIGNS, MOST_SWITCHES, MOST_COMMANDS}
@@ -23,10 +23,9 @@ use Rattle.expr_read.specs.declared.scope.Made.{Made}
 use Rattle.expr_read.specs.ScopeOf.{scope_of}
 use Rattle.expr_read.proofs.ScopeLaws.{scope_is_lawful}
 use Rattle.scenario_record.specs.declared.record.CommandEntry.{CommandEntry}
-use Rattle.scenario_record.specs.Readings.{◌>>=◌}
 use Rattle.scenario_record.specs.TextNames.{Names, expr_fits, assign_fits, switch_fits, command_fits, names_of_a_system}
 use Rattle.scenario_record.specs.Lawful.{is_made, name_made, is_new_name, IsLawfulCommand, AreLawfulCommands}
-use Rattle.scenario_read.specs.ReadKeys.{known_table, required, optional, text, list_up_to, each_over, each_up_to, item_count}
+use Rattle.scenario_read.specs.ReadKeys.{known_table, required, optional, text, list_up_to, each_over, each_up_to}
 use Rattle.scenario_read.specs.ReadTexts.{system_expr, system_assign, system_switch, system_command}
 use Rattle.scenario_read.specs.ReadCommands.{point, made_from, command, one_more_command, command_list}
 use Rattle.scenario_read.specs.ReadSystems.{acts}

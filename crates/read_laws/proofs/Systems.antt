@@ -1,13 +1,11 @@
 -- Each system that is read is lawful.
 use Rattle.std.proofs.Common.{ℕ, ◌≡◌, List, Bool, true, ◌||◌, Ok, subst}
-use Rattle.std.specs.Prelude.{codes}
 use Rattle.toml.specs.Data.{Data, Members, is_sorted, members_are_sorted}
 use Rattle.ent_types.specs.declared.type_info.TypeInfo.{TypeInfo}
 use Rattle.ent_types.specs.Registries.{IsLawfulRegistry}
 use Rattle.ent_types.specs.TypeSets.{has_type}
 use Rattle.scenario_record.specs.declared.fault.Cause.TheVariants.{BadShape}
 use Rattle.scenario_record.specs.declared.record.SystemEntry.{SystemEntry}
-use Rattle.scenario_record.specs.Readings.{◌>>=◌, unless, fault_if}
 use Rattle.scenario_record.specs.Lawful.{IsLawfulSystem}
 use Rattle.scenario_read.specs.ReadKeys.{known_table}
 use Rattle.scenario_read.specs.ReadGroups.{in_two_bands}

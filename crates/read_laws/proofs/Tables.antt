@@ -1,12 +1,12 @@
 -- What is read of a table whose keys rise, as those of each table of a document do.
-use Rattle.std.proofs.Common.{ℕ, ◌≡◌, ◌+◌, List, [], ◌∷◌, Bool, true, false, ◌&&◌, Option, None, Some, Ok, refl, subst}
+use Rattle.std.proofs.Common.{ℕ, ◌≡◌, ◌+◌, List, [], ◌∷◌, true, Option, None, Some, Ok, refl, subst}
 use Rattle.std.specs.Prelude.{nat_lt}
 use Rattle.std.specs.List.{AllByRecursion as Each}
 use Rattle.std.proofs.lemmas.Bool.{and_parts}
 use Rattle.toml.specs.Data.{Data, string, integer, float, boolean, datetime, array, table, Items, no_items, item, Members, get_member, is_sorted, items_are_sorted, members_are_sorted}
 use Rattle.scenario_record.specs.declared.fault.Cause.TheVariants.{TooMany}
-use Rattle.scenario_record.specs.Readings.{Reading, at_place, ◌>>=◌, changed, unless, fault_if}
-use Rattle.scenario_read.specs.ReadKeys.{unknown_key, value_or, optional, item_count, list, few_items, list_up_to, member_count, members, few_members, members_up_to, known_table, each_from, each_up_to}
+use Rattle.scenario_record.specs.Readings.{Reading, at_place, changed, unless}
+use Rattle.scenario_read.specs.ReadKeys.{unknown_key, value_or, optional, item_count, list, few_items, list_up_to, members, known_table, each_from, each_up_to}
 use Rattle.read_laws.proofs.Inversions.{then_ok, changed_ok, ok_same, unless_ok, fault_ok, under_ok, at_place_ok}
 use Rattle.read_laws.proofs.SortedTables.{member_sorted}
 

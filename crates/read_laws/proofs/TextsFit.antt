@@ -1,5 +1,5 @@
 -- What a tree of the grammar means names only what its place has, where the names of its scope do.
-use Rattle.std.proofs.Common.{ℕ, zero, suc, ◌≡◌, List, [], ◌∷◌, Bool, true, false, ◌&&◌, Some, map, refl, ◌∙◌, subst}
+use Rattle.std.proofs.Common.{ℕ, zero, suc, ◌≡◌, List, [], ◌∷◌, Bool, true, false, Some, map, refl, ◌∙◌, subst}
 use Rattle.std.specs.Prelude.{ℤ, pos}
 use Rattle.std.proofs.lemmas.Bool.{and_from}
 use Rattle.ent_types.specs.declared.entity.TypeId.{TypeId}

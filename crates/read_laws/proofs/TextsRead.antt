@@ -1,7 +1,7 @@
 -- Each text that is read names only what its place has.
-use Rattle.std.proofs.Common.{ℕ, ◌≡◌, ◌<◌, ◌^◌, List, [], ◌∷◌, Bool, true, false, not, ◌&&◌, ◌||◌, Some, Result, Ok, Err, length, map, refl, sym, ap, subst}
+use Rattle.std.proofs.Common.{ℕ, ◌≡◌, ◌<◌, ◌^◌, List, [], ◌∷◌, Bool, true, false, Some, Result, Ok, Err, length, map, refl, sym, ap, subst}
 use Rattle.std.specs.List.{list_all}
-use Rattle.std.proofs.lemmas.Bool.{and_parts, and_from, or_from, or_left, or_right, both_ways, not-true, not_from_false, eq-eqb, ne_eqb}
+use Rattle.std.proofs.lemmas.Bool.{and_parts, and_from, or_from, or_left, or_right, both_ways, not_from_false, eq-eqb, ne_eqb}
 use Rattle.ent_types.specs.declared.entity.TypeId.{TypeId}
 use Rattle.ent_types.specs.declared.kinds.Kind.{Kind}
 use Rattle.ent_types.specs.declared.kinds.Kind.TheVariants.{Plain, Tag, Shared as SharedKind, Cleanup, Buffer}
@@ -37,7 +37,7 @@ use Rattle.expr_read.specs.ScopeOf.{is_listed, scope_of}
 use Rattle.expr_read.proofs.ScopeLaws.{scope_is_lawful}
 use Rattle.expr_read.proofs.CommandScopeLaws.{scope_serves_commands}
 use Rattle.scenario_record.specs.declared.record.CommandEntry.{CommandEntry}
-use Rattle.scenario_record.specs.TextNames.{Names, are_once, none_made, ref_fits, expr_fits, part_fits, new_part_fits, new_parts_fit, command_fits, assign_fits, switch_fits, names_of_a_system}
+use Rattle.scenario_record.specs.TextNames.{Names, are_once, none_made, ref_fits, expr_fits, part_fits, new_part_fits, command_fits, assign_fits, switch_fits, names_of_a_system}
 use Rattle.scenario_record.specs.Lawful.{name_made, is_new_name}
 use Rattle.scenario_read.specs.ReadTexts.{text_reading}
 use Rattle.read_laws.proofs.Inversions.{ok_same}

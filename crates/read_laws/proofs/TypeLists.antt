@@ -1,21 +1,19 @@
 -- Lists of type names, as they are read.
-use Rattle.std.proofs.Common.{ℕ, ◌≡◌, ◌+◌, ◌<◌, ◌≤◌, List, [], ◌∷◌, Bool, true, false, not, ◌||◌, cond, eqb, Option, Some, None, Ok, length, refl, sym, ap, ◌∙◌, subst, arith, inl, inr}
-use Rattle.std.specs.Prelude.{codes, position}
+use Rattle.std.proofs.Common.{ℕ, ◌≡◌, ◌+◌, ◌≤◌, List, Bool, true, false, not, ◌||◌, eqb, Some, Ok, length, refl, sym, ap, ◌∙◌, subst, arith, inl, inr}
 use Rattle.std.specs.List.{list_all}
-use Rattle.std.proofs.lemmas.Bool.{or_cases, or_parts, or_from, eqb-true, not-false}
-use Rattle.std.proofs.lemmas.Option.{none-some, same_Some, cond_some}
+use Rattle.std.proofs.lemmas.Bool.{or_cases, or_parts, eqb-true, not-false}
+use Rattle.std.proofs.lemmas.Option.{cond_some}
 use Rattle.toml.specs.Data.{Data, Items, Members}
 use Rattle.ent_types.specs.declared.type_info.TypeInfo.{TypeInfo}
 use Rattle.ent_types.specs.Names.{is_name, name_of}
 use Rattle.ent_types.specs.Registries.{type_named}
-use Rattle.ent_types.specs.TypeSets.{IsRisingFrom, has_type, with_type}
+use Rattle.ent_types.specs.TypeSets.{IsRisingFrom, has_type}
 use Rattle.ent_types.proofs.TypeNumbers.{type_named-Some}
 use Rattle.ent_types.proofs.TypeSetLaws.{length-with_type}
 use Rattle.ent_types.proofs.TypeSetLemmas.{or_left_comm, has_type-with_type, IsRisingFrom-with_type}
-use Rattle.scenario_record.specs.declared.fault.Cause.{Cause}
 use Rattle.scenario_record.specs.declared.fault.Cause.TheVariants.{BadName, BadKind, UnknownName, DuplicateName}
-use Rattle.scenario_record.specs.Readings.{Reading, ◌>>=◌, unless, or_fault, fault_if}
-use Rattle.scenario_read.specs.ReadKeys.{text, name, name_in, optional, list_up_to, each_over, item_count}
+use Rattle.scenario_record.specs.Readings.{◌>>=◌, or_fault}
+use Rattle.scenario_read.specs.ReadKeys.{text, name, name_in, list_up_to, each_over, item_count}
 use Rattle.scenario_read.specs.ReadTypeLists.{is_allowed, allowed_type, known_type, type_of_key, new_type_in, type_of_item, found_one, one_more_type, none_beside, type_list}
 use Rattle.scenario_read.specs.ReadQueries.{clause}
 use Rattle.scenario_read.specs.Parts.{Allowed, Named}

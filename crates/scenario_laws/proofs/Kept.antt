@@ -1,12 +1,11 @@
 -- What each scenario that was read keeps.
-use Rattle.std.proofs.Common.{ℕ, ◌≡◌, ◌≤◌, List, [], Bool, true, false, ◌||◌, Option, None, Some, Ok, refl, subst}
+use Rattle.std.proofs.Common.{ℕ, ◌≡◌, List, false, Option, None, Some, Ok, subst}
 use Rattle.std.specs.Prelude.{codes}
 use Rattle.std.proofs.lemmas.Bool.{or_parts}
 use Rattle.toml.specs.Data.{Members, get_member}
 use Rattle.ent_types.specs.Registries.{IsLawfulRegistry}
 use Rattle.scenario_record.specs.declared.record.Scenario.{Scenario}
-use Rattle.scenario_record.specs.Readings.{◌>>=◌}
-use Rattle.scenario_read.specs.declared.reader.Numbers.{Numbers}
+use Rattle.scenario_read.specs.Parts.{Numbers}
 use Rattle.scenario_read.specs.ReadKeys.{unknown_key, required, optional, number}
 use Rattle.scenario_read.specs.ReadStages.{has_key, has_any, unbuilt_at_top, is_unbuilt}
 use Rattle.scenario_read.specs.ReadScenario.{numbers, types, spawns, schedule, known_at_top, top_keys, top_table, document_of, read_document, scenario_of}
