@@ -1,9 +1,9 @@
-mod CommandScopeLaws
+pub mod CommandScopeLaws
 mod NewNames
 pub mod PrintedExprs
 mod PrintedLeaves
 mod PrintedNames
 pub mod PrintedTokens
 mod PrintedTrees
-mod ScopeLaws
+pub mod ScopeLaws
 mod TypesLeft

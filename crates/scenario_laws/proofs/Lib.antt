@@ -1,4 +1,2 @@
-pub mod Inversions
-pub mod Registries
 pub mod Kept
 pub mod Runs

@@ -16,8 +16,9 @@ use Rattle.scenario_read.specs.ReadScenario.{scenario_of}
 use Rattle.scenario_check.specs.Checks.{at_element, first_of, names_fault, parents_fault, siblings_fault, each_fault_from, spawn_fault, crowded_from, spawns_fault, lookups_fault, events_fault, first_fault}
 use Rattle.scenario_check.specs.Planned.{planned, checked}
 use Rattle.scenario_check.specs.Built.{is_built}
-use Rattle.scenario_laws.proofs.Inversions.{whole_ok}
-use Rattle.scenario_laws.proofs.Kept.{what_is_kept}
+use Rattle.read_laws.proofs.Inversions.{whole_ok}
+use Rattle.read_laws.proofs.Scenarios.{is_lawful_scenario}
+use Rattle.scenario_laws.proofs.Kept.{begins_with_one}
 
 -- ---- what passes has no fault
 
@@ -76,11 +77,11 @@ is_built-unmarked s is = unmarked s.unbuilt _ is
 
 pub can_be_run : (bytes : List ℕ) (s : Scenario) (p : Plan) → scenario_of bytes ≡ Ok s → checked s ≡ Ok p → is_built s ≡ true → IsRunnable s
 can_be_run bytes s p read passes built =
-    let kept = what_is_kept bytes s read in
+    let lawful = is_lawful_scenario bytes s read in
     let rows = few_rows 0 0 s.spawn (omega arith) (not_crowded s (no_spawn_fault s (no_fault s p passes))) in
     record {
-      frames = kept.frames;
-      systems = kept.systems;
+      frames = lawful.frames;
+      systems = lawful.system_few;
       entities = omega (arith, rows);
-      first = kept.first (is_built-unmarked s built);
+      first = begins_with_one bytes s read (is_built-unmarked s built);
     }

@@ -10,3 +10,4 @@ pub mod ReadSystems
 pub mod ReadEvents
 pub mod ReadStages
 pub mod ReadTop
+pub mod Parts

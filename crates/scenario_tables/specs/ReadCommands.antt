@@ -1,5 +1,5 @@
 -- The tables of a system's commands: `buffer`, `when`, `key`, `do`.
-use Rattle.std.specs.Prelude.{ℕ, pos, ◌+◌, Bool, ◌==◌, if◌then◌else◌, List, [], ◌∷◌, ◌++◌, codes, Option, None, Some, Ok}
+use Rattle.std.specs.Prelude.{ℕ, pos, ◌+◌, Bool, if◌then◌else◌, List, [], ◌∷◌, ◌++◌, codes, Option, None, Some, Ok}
 use Rattle.toml.specs.Data.{Data}
 use Rattle.ent_types.specs.declared.limits.TheConstants.{MOST_COMMANDS}
 use Rattle.ent_types.specs.declared.point.Point.{Point}
@@ -9,10 +9,9 @@ use Rattle.ent_types.specs.Types.{same_name}
 use Rattle.expr_read.specs.declared.scope.Made.{Made}
 use Rattle.expr_trees.specs.declared.tree.Expr.TheVariants.{Number, Variable}
 use Rattle.expr_trees.specs.declared.tree.Variable.TheVariants.{Chunk}
-use Rattle.expr_trees.specs.declared.tree.CommandText.{CommandText}
-use Rattle.expr_trees.specs.declared.tree.CommandText.TheVariants.{Create, Destroy, Add, Set, SetShared, Remove, Enable, Disable, Instantiate}
 use Rattle.scenario_record.specs.declared.fault.Cause.TheVariants.{BadWord}
 use Rattle.scenario_record.specs.declared.record.CommandEntry.{CommandEntry}
+pub use Rattle.scenario_record.specs.Lawful.{name_made, point_place, same_point}
 use Rattle.scenario_record.specs.Readings.{Reading, ◌>>=◌, or_fault}
 use Rattle.scenario_tables.specs.ReadKeys.{known_table, required, optional, text, list_up_to, each_over}
 use Rattle.scenario_tables.specs.ReadTexts.{system_expr, system_command}
@@ -32,28 +31,6 @@ abbrev pub point : Data → Reading Point
 point d = text d >>= λ s. or_fault BadWord (point_named s)
 
 -- ---- the names that earlier commands make
-
--- the place of a point in a frame
-abbrev pub point_place : Point → ℕ
-point_place BeginInitialization = 0
-point_place EndInitialization = 1
-point_place BeginSimulation = 2
-point_place EndSimulation = 3
-point_place BeginPresentation = 4
-
-abbrev pub same_point : Point → Point → Bool
-same_point p q = point_place p == point_place q
-
-abbrev pub name_made : CommandText → Option (List ℕ)
-name_made (Create name parts) = Some name
-name_made (Instantiate name source) = Some name
-name_made (Destroy r) = None
-name_made (Add r p) = None
-name_made (Set r p) = None
-name_made (SetShared r p) = None
-name_made (Remove r ty) = None
-name_made (Enable r ty) = None
-name_made (Disable r ty) = None
 
 abbrev pub with_made : ℕ → Bool → Option (List ℕ) → List Made → List Made
 with_made number same None made = made

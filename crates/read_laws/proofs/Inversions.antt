@@ -8,7 +8,7 @@ use Rattle.scenario_record.specs.declared.fault.Cause.{Cause}
 use Rattle.scenario_record.specs.declared.fault.Cause.TheVariants.{NumberRange, TooMany}
 use Rattle.scenario_record.specs.declared.fault.BadScenario.{BadScenario}
 use Rattle.scenario_record.specs.Faults.{bad}
-use Rattle.scenario_record.specs.Readings.{Reading, under, at_place, ◌>>=◌, changed, unless, whole_path, fault_if}
+use Rattle.scenario_record.specs.Readings.{Reading, under, at_place, ◌>>=◌, changed, unless, whole_path, or_fault, fault_if}
 use Rattle.scenario_tables.specs.ReadKeys.{required_value, required, value_or, optional, number, item_count, few_items, list, list_up_to, each_from, each_up_to, each_over}
 
 -- what was read
@@ -69,6 +69,11 @@ module _ {A : Type 0} where
   pub fault_ok : (b : Bool) (cause : Cause) (next : Reading A) (y : A) → unless (fault_if b cause) next ≡ Ok y → (b ≡ false) × (next ≡ Ok y)
   fault_ok false cause next y is = (refl, is)
   fault_ok true cause next y is = absurd cc
+
+  -- a value that may not be there
+  pub or_fault_ok : (cause : Cause) (o : Option A) (x : A) → or_fault cause o ≡ Ok x → o ≡ Some x
+  or_fault_ok cause None x is = absurd cc
+  or_fault_ok cause (Some y) x is = ap (λ z. Some z) (ok_same y x is)
 
   -- an optional key was read, or has its default
   pub optional_ok : (P : A → Type 0) (key : List ℕ) (default : A) (read : Data → Reading A) (ms : Members) (x : A) → P default
@@ -132,15 +137,17 @@ optional_each_ok P key most read ms xs each is =
 pub optional_up_to_ok : {A : Type 0} (key : List ℕ) (most : ℕ) (read : Data → Reading A) (ms : Members) (xs : List A) → optional key [] (each_up_to most read) ms ≡ Ok xs → length xs ≤ most
 optional_up_to_ok key most read ms xs is = value_up_to_ok key most read (get_member key ms) xs is
 
--- a number is at most the greatest one that is let in
-in_range_ok : (low high m n : ℕ) → cond (nat_le low m && nat_le m high) (Ok m) (Err (bad NumberRange)) ≡ Ok n → n ≤ high
+-- a number is one of those that are let in
+in_range_ok : (low high m n : ℕ) → cond (nat_le low m && nat_le m high) (Ok m) (Err (bad NumberRange)) ≡ Ok n → (low ≤ n) × (n ≤ high)
 in_range_ok low high m n is = by (nat_le low m && nat_le m high) refl is
   where
-    by : (b : Bool) → (nat_le low m && nat_le m high) ≡ b → cond b (Ok m) (Err (bad NumberRange)) ≡ Ok n → n ≤ high
-    by true test got = let same : m ≡ n = cc in subst (λ k. k ≤ high) same (leb-true m high (and_parts (nat_le low m) (nat_le m high) test).1)
+    by : (b : Bool) → (nat_le low m && nat_le m high) ≡ b → cond b (Ok m) (Err (bad NumberRange)) ≡ Ok n → (low ≤ n) × (n ≤ high)
+    by true test got =
+        let (above, below) = and_parts (nat_le low m) (nat_le m high) test in
+        subst (λ k. (low ≤ k) × (k ≤ high)) (ok_same m n got) (leb-true low m above, leb-true m high below)
     by false test got = absurd cc
 
-pub number_ok : (low high : ℕ) (d : Data) (n : ℕ) → number low high d ≡ Ok n → n ≤ high
+pub number_ok : (low high : ℕ) (d : Data) (n : ℕ) → number low high d ≡ Ok n → (low ≤ n) × (n ≤ high)
 number_ok low high (string s) n is = absurd cc
 number_ok low high (integer (pos m)) n is = in_range_ok low high m n is
 number_ok low high (integer (negsuc m)) n is = absurd cc
