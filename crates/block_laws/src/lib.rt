@@ -2,5 +2,7 @@
 #![tactic(auto)]
 
 mod laws;
+mod worked;
 
 pub use laws::{either_order, restores};
+pub use worked::{one_number, two_bits};
