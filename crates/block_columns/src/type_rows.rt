@@ -65,6 +65,21 @@ impl TypeRows {
         self.shape.ty
     }
 
+    /// Returns what the block knows of the type.
+    pub fn shape(&self) -> &TypeShape
+        ensures { result.now ≡ self.now.shape }
+    {
+        &self.shape
+    }
+
+    /// Returns the number of rows.
+    pub fn len(&self) -> u32
+        ensures value { result ≡ length self.now.cells }
+        ensures bound { result ≤ MOST_BLOCK_ROWS }
+    {
+        self.rows
+    }
+
     /// Adds a row with 0 or null in each field, or with no element, and enabled. It takes no memory.
     pub fn push(&mut self)
         requires { length self.old.cells < self.old.capacity }

@@ -1,4 +1,5 @@
 pub mod Places
+pub mod Known
 pub mod Changed
 pub mod Pushed
 pub mod Swapped

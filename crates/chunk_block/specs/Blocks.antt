@@ -146,6 +146,16 @@ abbrev pub OfType : ℕ → (TypeShape → Type 0) → List BlockType → Type 0
 OfType t P [] = ⊥
 OfType t P (x ∷ xs) = MatchBool (nat_eq x.shape.ty.0 t) ((x.lent ≡ false) × P x.shape) (OfType t P xs)
 
+-- the block lacks the type, or it is shared or lent
+abbrev pub Lacks : ℕ → List BlockType → Type 0
+Lacks t [] = Unit {0}
+Lacks t (x ∷ xs) = MatchBool (nat_eq x.shape.ty.0 t) (x.lent ≡ true) (Lacks t xs)
+
+-- the type isn't lent; a shared type never is
+abbrev pub IsNotLent : ℕ → List BlockType → Type 0
+IsNotLent t [] = Unit {0}
+IsNotLent t (x ∷ xs) = MatchBool (nat_eq x.shape.ty.0 t) (x.lent ≡ false) (IsNotLent t xs)
+
 -- nothing is lent
 abbrev pub IsWhole : List BlockType → Type 0
 IsWhole [] = Unit {0}

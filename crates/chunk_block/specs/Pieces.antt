@@ -5,7 +5,7 @@ use Rattle.std.specs.List.{swap_remove}
 use Rattle.std.specs.declared.alloc.Global.{Global}
 use Rattle.ent_types.specs.TypeSets.{has_type}
 use Rattle.block_columns.specs.declared.shape.TypeShape.{TypeShape}
-use Rattle.block_columns.specs.Types.{TypeState, Content, blank_cell, new_cell, kind_in, with_number_in, all_rows}
+use Rattle.block_columns.specs.Types.{TypeState, Content, blank_cell, cell_in, new_cell, kind_in, with_number_in, all_rows}
 use Rattle.chunk_block.specs.declared.piece.Piece.{Piece, out-Piece}
 use Rattle.chunk_block.specs.declared.piece.Piece.TheOpen.{Piece-F}
 use Rattle.chunk_block.specs.declared.piece.Piece.TheFolds.{fold-Piece}
@@ -48,6 +48,10 @@ abbrev pub OfPiece : ℕ → (TypeState → Type 0) → List TypeState → Type 
 OfPiece t P [] = ⊥
 OfPiece t P (x ∷ xs) = MatchBool (nat_eq x.shape.ty.0 t) (P x) (OfPiece t P xs)
 
+abbrev pub LacksPiece : ℕ → List TypeState → Type 0
+LacksPiece t [] = Unit {0}
+LacksPiece t (x ∷ xs) = MatchBool (nat_eq x.shape.ty.0 t) ⊥ (LacksPiece t xs)
+
 abbrev pub change_piece : ℕ → (TypeState → TypeState) → List TypeState → List TypeState
 change_piece t f [] = []
 change_piece t f (x ∷ xs) = if nat_eq x.shape.ty.0 t then f x ∷ xs else x ∷ change_piece t f xs
@@ -60,6 +64,11 @@ IsHeld P (Some x) = P x
 abbrev pub OfPlace : ℕ → (TypeState → Type 0) → List Place → Type 0
 OfPlace t P [] = ⊥
 OfPlace t P (p ∷ ps) = MatchBool (nat_eq p.shape.ty.0 t) (IsHeld P p.held) (OfPlace t P ps)
+
+-- the block lacks the type, or it is lent
+abbrev pub LacksPlace : ℕ → List Place → Type 0
+LacksPlace t [] = Unit {0}
+LacksPlace t (p ∷ ps) = MatchBool (nat_eq p.shape.ty.0 t) (p.held ≡ None) (LacksPlace t ps)
 
 abbrev pub change_place : ℕ → (TypeState → TypeState) → List Place → List Place
 change_place t f [] = []
@@ -79,6 +88,26 @@ OfShape P x = P x.shape
 -- what a field keeps of the numbers of some rows
 abbrev pub stored_numbers : List ℕ → ℕ → List ℤ → TypeState → TypeState
 stored_numbers rows f numbers x = all_rows (with_number_in rows (kind_in f x.shape.kinds) f numbers) x
+
+-- ---- the bit of a row
+
+-- if the type is among the pieces, this holds of the first of it
+abbrev pub IfPiece : ℕ → (TypeState → Type 0) → List TypeState → Type 0
+IfPiece t P [] = Unit {0}
+IfPiece t P (x ∷ xs) = MatchBool (nat_eq x.shape.ty.0 t) (P x) (IfPiece t P xs)
+
+-- the type is disabled in the row; a type that isn't there never is
+abbrev pub piece_off : ℕ → ℕ → List TypeState → Bool
+piece_off row t [] = false
+piece_off row t (x ∷ xs) = if nat_eq x.shape.ty.0 t then (cell_in row x.cells).off else piece_off row t xs
+
+abbrev pub held_off : ℕ → Option TypeState → Bool
+held_off row None = false
+held_off row (Some x) = (cell_in row x.cells).off
+
+abbrev pub place_off : ℕ → ℕ → List Place → Bool
+place_off row t [] = false
+place_off row t (p ∷ ps) = if nat_eq p.shape.ty.0 t then held_off row p.held else place_off row t ps
 
 -- ---- all types
 

@@ -1,5 +1,5 @@
 //! A block.
-ghost use Rattle.std.specs.Prelude.{◌≡◌, ℕ, ◌<◌, ◌≤◌, ◌++◌, ◌∷◌, not, length, map, fold, slice_get, slice_index_or, slice_set, option_map, vec_capacity, IfOk, MatchResult, [], ⊤};
+ghost use Rattle.std.specs.Prelude.{◌≡◌, ℕ, ◌<◌, ◌≤◌, ◌++◌, ◌∷◌, not, length, map, fold, slice_get, slice_index_or, slice_set, option_map, vec_capacity, IfOk, IfSome, MatchOption, MatchResult, [], ⊤};
 ghost use Rattle.std.specs.List.{flat_map, swap_remove};
 ghost use Rattle.ent_types.specs.declared.limits.TheConstants.{MOST_BLOCK_ROWS};
 ghost use Rattle.buffer_store.specs.Buffers.{buffer};
@@ -10,16 +10,16 @@ ghost use Rattle.block_columns.specs.Places.{at_places};
 ghost use Rattle.block_columns.specs.Slices.{slice_values};
 ghost use Rattle.block_columns.specs.Types.{with_value, with_off, with_values, with_number_in, with_reference_in, with_enabled_in, HasField, TakesValue, TakesNumbers, TakesReferences, TakesElements, IsEnableable, IsBuffer};
 ghost use Rattle.chunk_block.specs.declared.block.BlockFault.TheVariants as fault;
-ghost use Rattle.chunk_block.specs.Blocks.{LoanState, new_block, content_at, changed, no_row, row_in, field_at, is_off, OfType, IsWhole, AreHeld, IsLoanOf, kind_at, new_row, lent_type, lent_row, lent_piece, given_type, given_rows, mark_at, with_mark, AreDistinct, column_types, HaveTypes};
+ghost use Rattle.chunk_block.specs.Blocks.{LoanState, new_block, content_at, changed, no_row, row_in, field_at, is_off, OfType, Lacks, IsNotLent, IsWhole, AreHeld, IsLoanOf, kind_at, new_row, lent_type, lent_row, lent_piece, given_type, given_rows, mark_at, with_mark, AreDistinct, column_types, HaveTypes};
 
 use crate::loan::Loan;
 use crate::make::{capacity_of, new_slots};
 use crate::marks::{TypeMark, mark_type, new_marks, version_of};
 use crate::slot::{
-    Slot, find_rows, lend_all, push_all, put_back, put_elements, remove_all, set_enabled,
-    set_value, store, store_enabled, store_references,
+    Slot, find_rows, is_enabled, lend_all, look_up, push_all, put_back, put_elements, remove_all,
+    set_enabled, set_value, store, store_enabled, store_references,
 };
-use block_columns::ColumnSlice;
+use block_columns::{ColumnSlice, TypeRows};
 use buffer_store::Elements;
 use enable_bits::Mask;
 use ent_types::{Entity, Memory, Registry, SystemVersion, TypeId, TypeSet, Value};
@@ -297,6 +297,15 @@ impl Block {
         entity_in(&self.entities, row)
     }
 
+    /// Returns the rows of a type, or `None` if the type isn't there, is shared or is lent. One call finds the type for
+    /// many reads.
+    pub fn rows_of(&self, ty: TypeId) -> Option<&TypeRows>
+        ensures shape { MatchOption result (Lacks ty.0 self.now.columns) (λ rows. OfType ty.0 (λ shape. rows.now.shape ≡ shape) self.now.columns) }
+        ensures cells { IfSome result (λ rows. rows.now.cells ≡ map (λ r. content_at ty.0 r.cells) self.now.rows) }
+    {
+        look_up(&self.slots, ty)
+    }
+
     /// Returns the value of a row in a field of a type.
     pub fn field_get(&self, row: u32, ty: TypeId, field: u8) -> Value
         requires within { row < length self.now.rows }
@@ -315,13 +324,13 @@ impl Block {
         set_value(&mut self.slots, ty, row, field, value);
     }
 
-    /// `true` if a type is enabled in a row.
+    /// `true` if a type is enabled in a row. A shared type always is.
     pub fn enabled(&self, row: u32, ty: TypeId) -> bool
         requires within { row < length self.now.rows }
-        requires there { OfType ty.0 (λ _. ⊤) self.now.columns }
+        requires there { IsNotLent ty.0 self.now.columns }
         ensures { result ≡ not (is_off ty.0 (row_in row self.now.rows)) }
     {
-        find_rows(&self.slots, ty).enabled(row)
+        is_enabled(&self.slots, ty, row)
     }
 
     /// Enables or disables a type in a row.

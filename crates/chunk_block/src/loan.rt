@@ -1,17 +1,18 @@
 //! What a block lends.
-ghost use Rattle.std.specs.Prelude.{◌≡◌, ℕ, not, length, map, ⊤};
+ghost use Rattle.std.specs.Prelude.{◌≡◌, ℕ, not, length, map, ⊤, MatchOption};
 ghost use Rattle.buffer_store.specs.Buffers.{buffer};
 ghost use Rattle.enable_bits.specs.Masks.{has};
 ghost use Rattle.block_columns.specs.Columns.{value_at};
 ghost use Rattle.block_columns.specs.Slices.{slice_values};
 ghost use Rattle.block_columns.specs.Types.{cell_in, with_value, with_off, with_values, with_reference_in, with_enabled_in, one_row, all_rows, HasField, TakesValue, TakesNumbers, TakesReferences, TakesElements, IsEnableable, IsBuffer};
 ghost use Rattle.chunk_block.specs.Blocks.{BlockState, IsLoanOf};
-ghost use Rattle.chunk_block.specs.Pieces.{OfPiece, InRow, OfRows, OfShape, stored_numbers, change_piece};
+ghost use Rattle.chunk_block.specs.Pieces.{OfPiece, LacksPiece, IfPiece, HasTheRow, piece_off, InRow, OfRows, OfShape, stored_numbers, change_piece};
 
 use crate::piece::{
-    Chain, find_rows, put_elements, set_enabled, set_value, store, store_enabled, store_references,
+    Chain, find_rows, is_enabled, look_up, put_elements, set_enabled, set_value, store,
+    store_enabled, store_references,
 };
-use block_columns::ColumnSlice;
+use block_columns::{ColumnSlice, TypeRows};
 use buffer_store::Elements;
 use enable_bits::Mask;
 use ent_types::{Entity, TypeId, TypeSet, Value};
@@ -52,6 +53,13 @@ impl Loan {
         &self.types
     }
 
+    /// Returns the rows of a type, or `None` if the loan lacks it. One call finds the type for many reads.
+    pub fn rows_of(&self, ty: TypeId) -> Option<&TypeRows>
+        ensures { MatchOption result (LacksPiece ty.0 self.now.pieces) (λ rows. OfPiece ty.0 (λ t. rows.now ≡ t) self.now.pieces) }
+    {
+        look_up(&self.pieces, ty)
+    }
+
     /// Returns the value of a row in a field of a type.
     pub fn field_get(&self, row: u32, ty: TypeId, field: u8) -> Value
         requires { OfPiece ty.0 (InRow row (HasField field)) self.now.pieces }
@@ -69,12 +77,12 @@ impl Loan {
         set_value(&mut self.pieces, ty, row, field, value);
     }
 
-    /// `true` if a type is enabled in a row.
+    /// `true` if a type is enabled in a row. A shared type always is.
     pub fn enabled(&self, row: u32, ty: TypeId) -> bool
-        requires { OfPiece ty.0 (InRow row (λ _. ⊤)) self.now.pieces }
-        ensures { OfPiece ty.0 (λ t. result ≡ not (cell_in row t.cells).off) self.now.pieces }
+        requires { IfPiece ty.0 (HasTheRow row) self.now.pieces }
+        ensures { result ≡ not (piece_off row ty.0 self.now.pieces) }
     {
-        find_rows(&self.pieces, ty).enabled(row)
+        is_enabled(&self.pieces, ty, row)
     }
 
     /// Enables or disables a type in a row.

@@ -1,9 +1,9 @@
 //! Boxes with what a block keeps of one type each. A box may hold the next one of its list, so that lending relinks boxes
 //! and takes no memory.
-ghost use Rattle.std.specs.Prelude.{◌≡◌, ◌<◌, ◌∷◌, not, length, true, ⊤};
+ghost use Rattle.std.specs.Prelude.{◌≡◌, ◌<◌, ◌∷◌, not, length, true, ⊤, MatchOption};
 ghost use Rattle.buffer_store.specs.Buffers.{buffer};
 ghost use Rattle.block_columns.specs.Types.{cell_in, with_value, with_off, with_values, with_number_in, with_reference_in, with_enabled_in, one_row, all_rows, TakesValue, TakesNumbers, TakesReferences, TakesElements, IsEnableable};
-ghost use Rattle.chunk_block.specs.Pieces.{pieces_in, rows_of, OfPiece, InRow, OfRows, OfShape, stored_numbers, change_piece};
+ghost use Rattle.chunk_block.specs.Pieces.{pieces_in, rows_of, OfPiece, LacksPiece, IfPiece, HasTheRow, piece_off, InRow, OfRows, OfShape, stored_numbers, change_piece};
 
 use block_columns::TypeRows;
 use buffer_store::Elements;
@@ -42,6 +42,39 @@ pub(crate) fn find_rows(list: &Chain, ty: TypeId) -> &TypeRows
                 &piece.rows
             } else {
                 find_rows(&piece.next, ty)
+            }
+        }
+    }
+}
+
+/// Returns the rows of a type, or `None` if the list lacks it.
+pub(crate) fn look_up(list: &Chain, ty: TypeId) -> Option<&TypeRows>
+    ensures { MatchOption result (LacksPiece ty.0 (pieces_in list.now)) (λ rows. OfPiece ty.0 (λ t. rows.now ≡ t) (pieces_in list.now)) }
+{
+    match list {
+        None => None,
+        Some(piece) => {
+            if piece.rows.ty() == ty {
+                Some(&piece.rows)
+            } else {
+                look_up(&piece.next, ty)
+            }
+        }
+    }
+}
+
+/// `true` if a type is enabled in a row. A type that isn't there is.
+pub(crate) fn is_enabled(list: &Chain, ty: TypeId, row: u32) -> bool
+    requires { IfPiece ty.0 (HasTheRow row) (pieces_in list.now) }
+    ensures { result ≡ not (piece_off row ty.0 (pieces_in list.now)) }
+{
+    match list {
+        None => true,
+        Some(piece) => {
+            if piece.rows.ty() == ty {
+                piece.rows.enabled(row)
+            } else {
+                is_enabled(&piece.next, ty, row)
             }
         }
     }

@@ -1,9 +1,9 @@
 //! Where a block keeps what it has of each type.
-ghost use Rattle.std.specs.Prelude.{◌≡◌, ◌<◌, ◌++◌, ◌∷◌, not, length, map, true, None, ⊤};
+ghost use Rattle.std.specs.Prelude.{◌≡◌, ◌<◌, ◌++◌, ◌∷◌, not, length, map, true, None, ⊤, MatchOption};
 ghost use Rattle.std.specs.List.{flat_map};
 ghost use Rattle.buffer_store.specs.Buffers.{buffer};
 ghost use Rattle.block_columns.specs.Types.{cell_in, with_value, with_off, with_values, with_number_in, with_reference_in, with_enabled_in, one_row, all_rows, TakesValue, TakesNumbers, TakesReferences, TakesElements, IsEnableable};
-ghost use Rattle.chunk_block.specs.Pieces.{pieces_in, rows_of, place_of, places_of, InRow, OfRows, OfShape, stored_numbers, OfPlace, Every, HasRoom, HasTheRow, AreSmall, change_place, pushed_place, swapped_place, kept, lent, lent_from, put, put_all};
+ghost use Rattle.chunk_block.specs.Pieces.{pieces_in, rows_of, place_of, places_of, InRow, OfRows, OfShape, stored_numbers, OfPlace, LacksPlace, place_off, Every, HasRoom, HasTheRow, AreSmall, change_place, pushed_place, swapped_place, kept, lent, lent_from, put, put_all};
 
 use crate::piece::{Chain, Piece, put_first};
 use block_columns::{TypeRows, TypeShape};
@@ -168,6 +168,60 @@ pub(crate) fn find_rows(slots: &Vec<Slot>, ty: TypeId) -> &TypeRows
     ensures { OfPlace ty.0 (λ t. result.now ≡ t) (places_of slots.now.items) }
 {
     find_in(slots, ty)
+}
+
+/// Returns the rows of a type, or `None` if the type isn't there or is lent.
+fn look_in(slots: &[Slot], ty: TypeId) -> Option<&TypeRows>
+    ensures { MatchOption result (LacksPlace ty.0 (places_of slots.now)) (λ rows. OfPlace ty.0 (λ t. rows.now ≡ t) (places_of slots.now)) }
+{
+    match slots.split_first() {
+        None => None,
+        Some((slot, rest)) => {
+            if slot.shape.ty == ty {
+                match &slot.piece {
+                    None => None,
+                    Some(piece) => Some(&piece.rows),
+                }
+            } else {
+                look_in(rest, ty)
+            }
+        }
+    }
+}
+
+/// Returns the rows of a type, or `None` if the type isn't there or is lent.
+pub(crate) fn look_up(slots: &Vec<Slot>, ty: TypeId) -> Option<&TypeRows>
+    ensures { MatchOption result (LacksPlace ty.0 (places_of slots.now.items)) (λ rows. OfPlace ty.0 (λ t. rows.now ≡ t) (places_of slots.now.items)) }
+{
+    look_in(slots, ty)
+}
+
+/// `true` if a type is enabled in a row. A type that isn't there is.
+fn is_enabled_in(slots: &[Slot], ty: TypeId, row: u32) -> bool
+    requires { Every (HasTheRow row) (places_of slots.now) }
+    ensures { result ≡ not (place_off row ty.0 (places_of slots.now)) }
+{
+    match slots.split_first() {
+        None => true,
+        Some((slot, rest)) => {
+            if slot.shape.ty == ty {
+                match &slot.piece {
+                    None => true,
+                    Some(piece) => piece.rows.enabled(row),
+                }
+            } else {
+                is_enabled_in(rest, ty, row)
+            }
+        }
+    }
+}
+
+/// `true` if a type is enabled in a row. A type that isn't there is.
+pub(crate) fn is_enabled(slots: &Vec<Slot>, ty: TypeId, row: u32) -> bool
+    requires { Every (HasTheRow row) (places_of slots.now.items) }
+    ensures { result ≡ not (place_off row ty.0 (places_of slots.now.items)) }
+{
+    is_enabled_in(slots, ty, row)
 }
 
 /// Writes a value into a row of a field of a type.

@@ -1,33 +1,10 @@
-use Rattle.std.proofs.Common.{ℕ, ◌≡◌, ◌<◌, ◌∙◌, sym, ap, subst, length, not, map, List}
-use Rattle.std.specs.Prelude.{⊤}
-use Rattle.ent_types.specs.declared.value.Value.{Value}
-use Rattle.buffer_store.specs.Buffers.{buffer}
-use Rattle.enable_bits.specs.Masks.{has}
-use Rattle.block_columns.specs.Columns.{value_at}
-use Rattle.block_columns.specs.Slices.{slice_values}
-use Rattle.block_columns.specs.Types.{TypeState, Content, cell_in, one_row, all_rows, with_value, with_off, with_values, with_reference_in, with_enabled_in, with_number_in, HasField, TakesValue, TakesNumbers, TakesReferences, TakesElements, IsEnableable, IsBuffer}
-use Rattle.block_columns.specs.declared.shape.TypeShape.{TypeShape}
-use Rattle.chunk_block.specs.Pieces.{OfPiece, InRow, OfRows, OfShape, change_piece, stored_numbers, pieces_in}
-use Rattle.chunk_block.specs.Blocks.{BlockState, LoanState, ArePiecesOf}
-use Rattle.chunk_block.proofs.Changed.{one_row_keeps, all_rows_keeps}
-use Rattle.chunk_block.proofs.Views.{stored_keeps}
-use Rattle.chunk_block.proofs.Loans.{still_pieces, of_piece, found_piece}
+use Rattle.std.proofs.Common.{◌≡◌, ◌∙◌, not, sym, ap, subst}
+use Rattle.chunk_block.specs.Pieces.{IfPiece, HasTheRow, piece_off}
+use Rattle.chunk_block.specs.Blocks.{LoanState}
 use Rattle.chunk_block.proofs.loan.Loan.enabled.Goals as goal
 
-pub find_rows-requires : goal.find_rows-requires
-find_rows-requires c =
-    let xs = pieces_in c.self.inside.pieces in
-    let of : OfPiece c.args.ty.0 (InRow c.args.row (λ _. ⊤)) xs = subst (λ (l : LoanState). OfPiece c.args.ty.0 (InRow c.args.row (λ _. ⊤)) l.pieces) (sym c.self.view_is) c.requires in
-    of_piece c.args.ty.0 (InRow c.args.row (λ _. ⊤)) (λ y. ⊤) xs (λ y h. tt) of
-
-pub enabled-requires : goal.enabled-requires
-enabled-requires c =
-    let xs = pieces_in c.self.inside.pieces in
-    let of : OfPiece c.args.ty.0 (InRow c.args.row (λ _. ⊤)) xs = subst (λ (l : LoanState). OfPiece c.args.ty.0 (InRow c.args.row (λ _. ⊤)) l.pieces) (sym c.self.view_is) c.requires in
-    (found_piece c.args.ty.0 (InRow c.args.row (λ _. ⊤)) c.find_rows.result.now xs c.find_rows.ensures of).0
+pub is_enabled-requires : goal.is_enabled-requires
+is_enabled-requires c = subst (λ (l : LoanState). IfPiece c.args.ty.0 (HasTheRow c.args.row) l.pieces) (sym c.self.view_is) c.requires
 
 pub returns : goal.returns
-returns c =
-    let xs = pieces_in c.self.inside.pieces in
-    subst (λ (l : LoanState). OfPiece c.args.ty.0 (λ y. c.enabled.result ≡ not (cell_in c.args.row y.cells).off) l.pieces) c.self.view_is
-    (of_piece c.args.ty.0 (λ y. c.find_rows.result.now ≡ y) (λ y. c.enabled.result ≡ not (cell_in c.args.row y.cells).off) xs (λ y same. c.enabled.ensures ∙ ap (λ (s : TypeState). not (cell_in c.args.row s.cells).off) same) c.find_rows.ensures)
+returns c = c.is_enabled.ensures ∙ ap (λ (l : LoanState). not (piece_off c.args.row c.args.ty.0 l.pieces)) c.self.view_is
