@@ -10,7 +10,7 @@ use Rattle.scenario_record.specs.declared.plan.Plan.{Plan}
 use Rattle.scenario_record.specs.declared.record.Scenario.{Scenario}
 use Rattle.scenario_record.specs.Faults.{bad}
 use Rattle.scenario_record.specs.Readings.{unless, whole_path}
-use Rattle.scenario_check.specs.Checks.{first_fault}
+use Rattle.scenario_faults.specs.Checks.{first_fault}
 use Rattle.scenario_check.specs.Planned.{checked, plan_of, steps_of}
 use Rattle.scenario_check.specs.Read.{IsRead}
 

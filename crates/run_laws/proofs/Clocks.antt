@@ -5,8 +5,8 @@ use Rattle.std.specs.Bool.{Decides}
 use Rattle.ent_types.specs.declared.type_info.TypeInfo.{TypeInfo}
 use Rattle.ent_types.specs.TypeSets.{has_type}
 use Rattle.ent_types.specs.declared.limits.TheConstants.{MOST_MOMENTS}
-use Rattle.ent_types.specs.Versions.{version_of, is_later, IsVersion, IsMoment}
-use Rattle.ent_types.proofs.VersionLemmas.{version_of-next, is_later-moments}
+use Rattle.system_version.specs.Versions.{version_of, is_later, IsVersion, IsMoment}
+use Rattle.system_version.proofs.VersionLemmas.{version_of-next, is_later-moments}
 use Rattle.world_model.specs.Members.{In, tally, one_if}
 use Rattle.world_model.specs.World.{Mark, Block, World}
 use Rattle.world_model.specs.Found.{Found, is_of}

@@ -4,8 +4,8 @@ use Rattle.std.proofs.Common.{◌≡◌, ℕ, ◌+◌, ◌≤◌, Bool, true, fa
 use Rattle.ent_types.specs.declared.entity.Entity.{Entity}
 use Rattle.ent_types.specs.declared.point.Point.{Point}
 use Rattle.ent_types.specs.declared.value.Value.{Value}
-use Rattle.ent_types.specs.Versions.{version_of, IsVersion}
-use Rattle.ent_types.proofs.VersionLemmas.{version_of-next}
+use Rattle.system_version.specs.Versions.{version_of, IsVersion}
+use Rattle.system_version.proofs.VersionLemmas.{version_of-next}
 use Rattle.world_model.specs.Members.{In}
 use Rattle.world_model.specs.World.{Mark, Block, World}
 use Rattle.world_model.specs.Found.{Found, alive_count}

@@ -1,6 +1,6 @@
 -- A run over versions of 32 bits in the place of moments.
 use Rattle.std.specs.Prelude.{ℕ, ◌≤◌, map, Option, Some, None, option_map}
-use Rattle.ent_types.specs.Versions.{IsMoment}
+use Rattle.system_version.specs.Versions.{IsMoment}
 use Rattle.world_model.specs.Members.{In}
 use Rattle.world_model.specs.World.{Mark, Block, World}
 use Rattle.world_model.specs.Versions.{world_versions}

@@ -6,7 +6,7 @@ ghost use Rattle.std.specs.List.{flat_map};
 ghost use Rattle.std.specs.List.Sorted.{IsPermutation, IsSortedBy};
 ghost use Rattle.ent_types.specs.declared.type_info.TypeInfo.{TypeInfo};
 ghost use Rattle.ent_types.specs.declared.limits.TheConstants.{MOST_MOMENTS};
-ghost use Rattle.ent_types.specs.Versions.{version_of, IsVersion};
+ghost use Rattle.system_version.specs.Versions.{version_of, IsVersion};
 ghost use Rattle.world_model.specs.Members.{In, AreDistinct};
 ghost use Rattle.world_model.specs.Lawful.{HasRoomForParts, IsLawful};
 ghost use Rattle.world_model.specs.World.{Home, Block, World};

@@ -1,7 +1,7 @@
 -- How a run counts time. A run of the model counts moments without end, and the code keeps versions of 32 bits. Each
 -- definition of a run takes a clock, so that it serves both.
 use Rattle.std.specs.Prelude.{ℕ, ◌+◌, Bool, nat_lt}
-use Rattle.ent_types.specs.Versions.{next_version, version_of, is_later}
+use Rattle.system_version.specs.Versions.{next_version, version_of, is_later}
 
 -- the next moment, whether a mark is later than the last run of a system, and the version that a line prints
 pub record Clock : Type 0 where

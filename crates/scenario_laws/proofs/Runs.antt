@@ -13,7 +13,7 @@ use Rattle.scenario_record.specs.Faults.{bad}
 use Rattle.scenario_record.specs.Readings.{Reading, unless}
 use Rattle.scenario_record.specs.Runnable.{IsRunnable}
 use Rattle.scenario_read.specs.ReadScenario.{scenario_of}
-use Rattle.scenario_check.specs.Checks.{at_element, first_of, names_fault, parents_fault, siblings_fault, each_fault_from, spawn_fault, crowded_from, spawns_fault, lookups_fault, events_fault, first_fault}
+use Rattle.scenario_faults.specs.Checks.{at_element, first_of, names_fault, parents_fault, siblings_fault, each_fault_from, spawn_fault, crowded_from, spawns_fault, lookups_fault, events_fault, first_fault}
 use Rattle.scenario_check.specs.Planned.{planned, checked}
 use Rattle.scenario_check.specs.Built.{is_built}
 use Rattle.read_laws.proofs.Inversions.{whole_ok}

@@ -12,7 +12,7 @@ use Rattle.ent_types.specs.Registries.{IsLawfulRegistry}
 use Rattle.ent_types.specs.Types.{same_name}
 use Rattle.ent_types.specs.TypeLookups.{fields_at, is_shared_at, is_enableable_at}
 use Rattle.ent_types.specs.TypeSets.{has_type}
-use Rattle.ent_types.specs.Versions.{IsVersion}
+use Rattle.system_version.specs.Versions.{IsVersion}
 use Rattle.expr_trees.specs.declared.tree.CommandText.{CommandText}
 use Rattle.expr_trees.specs.declared.tree.CommandText.TheVariants.{Create, Destroy, Add, Set, SetShared, Remove, Enable, Disable, Instantiate}
 use Rattle.scenario_record.specs.declared.record.Scenario.{Scenario}

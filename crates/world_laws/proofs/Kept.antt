@@ -6,7 +6,7 @@ use Rattle.ent_types.specs.declared.skip.Skip.TheVariants.{TooLarge, Full}
 use Rattle.ent_types.specs.declared.type_info.TypeInfo.{TypeInfo}
 use Rattle.ent_types.specs.declared.value.Value.{Value}
 use Rattle.ent_types.specs.Fitting.{null_entity}
-use Rattle.ent_types.specs.Versions.{IsVersion}
+use Rattle.system_version.specs.Versions.{IsVersion}
 use Rattle.world_model.specs.Members.{In}
 use Rattle.world_model.specs.Part.{PartOf, part_type, same_entity, by_type}
 use Rattle.world_model.specs.Row.{Cell, Row}

@@ -13,7 +13,7 @@ use Rattle.ent_types.specs.Fitting.{fits_field, fits_fields, fits_elements, fits
 use Rattle.ent_types.specs.Types.{is_buffer}
 use Rattle.ent_types.specs.Registries.{type_at}
 use Rattle.ent_types.specs.TypeLookups.{is_enableable_at}
-use Rattle.ent_types.specs.Versions.{IsVersion}
+use Rattle.system_version.specs.Versions.{IsVersion}
 use Rattle.world_model.specs.Members.{In, one_if, tally, AreDistinct}
 use Rattle.world_model.specs.Row.{Cell, Row, cell_type}
 use Rattle.world_model.specs.World.{Home, Block, World}

@@ -2,7 +2,7 @@
 use Rattle.std.proofs.Common.{◌≡◌, ℕ, ◌+◌, ◌-◌, ◌≤◌, List, [], ◌∷◌, ◌++◌, map, length, drop, find, refl, sym, ap, ap₂, ◌∙◌, subst, arith}
 use Rattle.std.specs.List.{filter_map, range_with_len}
 use Rattle.ent_types.specs.declared.value.Value.{Value}
-use Rattle.ent_types.specs.Versions.{version_of}
+use Rattle.system_version.specs.Versions.{version_of}
 use Rattle.world_model.specs.World.{Mark, Block, World}
 use Rattle.world_model.specs.Found.{Found, placed, has_index, alive_count}
 use Rattle.world_model.specs.Ids.{next_ids, room}

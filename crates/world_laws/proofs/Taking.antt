@@ -1,7 +1,7 @@
 -- What is given out when some ids are taken.
 use Rattle.std.proofs.Common.{◌≡◌, ℕ, zero, suc, ◌+◌, ◌-◌, ◌<◌, ◌≤◌, ◌⊎◌, inl, inr, nat_eq, nat_lt, Bool, true, false, List, [], ◌∷◌, length, drop, refl, sym, ap, ◌∙◌, subst, arith, eqb-true, eq-eqb, ltb-true}
 use Rattle.ent_types.specs.declared.entity.Entity.{Entity}
-use Rattle.ent_types.specs.Versions.{IsVersion}
+use Rattle.system_version.specs.Versions.{IsVersion}
 use Rattle.world_model.specs.Members.{In, one_if, tally}
 use Rattle.world_model.specs.Ids.{next_ids}
 use Rattle.world_model.specs.Lawful.{is_free_at}

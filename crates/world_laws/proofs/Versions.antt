@@ -5,7 +5,7 @@ use Rattle.ent_types.specs.declared.skip.Skip.TheVariants.{NoEntity}
 use Rattle.ent_types.specs.declared.value.Value.{Value}
 use Rattle.ent_types.specs.Fitting.{null_entity}
 use Rattle.ent_types.specs.TypeSets.{has_type}
-use Rattle.ent_types.specs.Versions.{version_of}
+use Rattle.system_version.specs.Versions.{version_of}
 use Rattle.world_model.specs.Part.{by_type}
 use Rattle.world_model.specs.Row.{Row}
 use Rattle.world_model.specs.World.{Home, Mark, Block, World}

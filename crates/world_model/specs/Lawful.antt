@@ -6,7 +6,7 @@ use Rattle.ent_types.specs.declared.type_info.TypeInfo.{TypeInfo}
 use Rattle.ent_types.specs.declared.value.Value.{Value}
 use Rattle.ent_types.specs.Registries.{IsLawfulRegistry}
 use Rattle.ent_types.specs.TypeLookups.{is_shared_at, is_buffer_at, is_enableable_at}
-use Rattle.ent_types.specs.Versions.{IsVersion}
+use Rattle.system_version.specs.Versions.{IsVersion}
 use Rattle.world_model.specs.Members.{In, one_if, tally, IsRising, AreDistinct}
 use Rattle.world_model.specs.Part.{PartOf, part_type}
 use Rattle.world_model.specs.Row.{Cell, cell_type}

@@ -1,6 +1,6 @@
 -- Worlds with versions of 32 bits in the place of moments, as the code keeps them.
 use Rattle.std.specs.Prelude.{◌≡◌, ℕ, List, map}
-use Rattle.ent_types.specs.Versions.{version_of, IsVersion}
+use Rattle.system_version.specs.Versions.{version_of, IsVersion}
 use Rattle.world_model.specs.World.{Mark, Block, World}
 use Rattle.world_model.specs.Operations.{Answer}
 use Rattle.world_model.specs.Lawful.{IsLawful}
