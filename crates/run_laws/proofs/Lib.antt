@@ -1,5 +1,6 @@
 pub mod Lists
 pub mod Matches
+pub mod Bits
 pub mod Visits
 pub mod Sorts
 pub mod Arrange
@@ -12,7 +13,13 @@ pub mod RunAgree
 pub mod Phases
 pub mod Grouping
 pub mod PhaseStep
+pub mod Steady
+pub mod FrameFold
+pub mod RootPhases
+pub mod Planned
+pub mod Moments
 pub mod Examples
+pub mod RunExamples
 pub mod RunLawful
 pub mod PlayLawful
 pub mod EntriesSuit
