@@ -195,11 +195,11 @@ module _ (clock : Clock) (capacity : List ℕ → ℕ) (trace : Bool) (files : L
       parts_done (groups systems) (p ∷ parts_with [] steps) st
       ∙ (ap (by_parts (parts_with [] steps)) (does (after_phases (groups systems) st))
       ∙ (on (step_done clock capacity trace frame (after_phases (groups systems) st) d)
-      (task_steady clock capacity trace (after_phases (groups systems) st) (record { frame = frame; step = d }))
+      (task_steady capacity clock trace (after_phases (groups systems) st) (record { frame = frame; step = d }))
       ∙ sym (steps_append (tasks_at systems) (record { frame = frame; step = d } ∷ frame_tasks files s frame steps) (Goes st)
       ∙ ap (by_steps (record { frame = frame; step = d } ∷ frame_tasks files s frame steps)) (systems_done systems distinct st h))))
     where
-      on : (course : Course) → IsAfter clock capacity trace (record ((after_phases (groups systems) st).world) { moment = clock.next (after_phases (groups systems) st).world.moment }) course
+      on : (course : Course) → IsAfter capacity clock trace (record ((after_phases (groups systems) st).world) { moment = clock.next (after_phases (groups systems) st).world.moment }) course
           → by_parts (parts_with [] steps) course ≡ by_steps (frame_tasks files s frame steps) course
       on (Goes next) k = rest next (k.types ∙ phases_types (groups systems) st h)
       on (Stops lines) k = both_stop (parts_with [] steps) (frame_tasks files s frame steps) lines
@@ -252,7 +252,7 @@ module _ (clock : Clock) (capacity : List ℕ → ℕ) (trace : Bool) (files : L
   -- the tasks of a frame leave the types of the world
   tasks_types : (ts : List Task) (st : State) → OnGoes (λ (u : State). u.world.registry ≡ st.world.registry) (course_after_all clock capacity trace ts (Goes st))
   tasks_types [] st = refl
-  tasks_types (t ∷ ts) st = on (course_after clock capacity trace st t) (task_steady clock capacity trace st t)
+  tasks_types (t ∷ ts) st = on (course_after clock capacity trace st t) (task_steady capacity clock trace st t)
     where
       further : (next : State) (course : Course) → next.world.registry ≡ st.world.registry
           → OnGoes (λ (u : State). u.world.registry ≡ next.world.registry) course → OnGoes (λ (u : State). u.world.registry ≡ st.world.registry) course
@@ -263,7 +263,7 @@ module _ (clock : Clock) (capacity : List ℕ → ℕ) (trace : Bool) (files : L
       stopped [] lines = tt
       stopped (t ∷ ts) lines = tt
 
-      on : (course : Course) → IsAfter clock capacity trace (record (st.world) { moment = clock.next st.world.moment }) course
+      on : (course : Course) → IsAfter capacity clock trace (record (st.world) { moment = clock.next st.world.moment }) course
           → OnGoes (λ (u : State). u.world.registry ≡ st.world.registry) (course_after_all clock capacity trace ts course)
       on (Goes next) k = further next (course_after_all clock capacity trace ts (Goes next)) k.types (tasks_types ts next)
       on (Stops lines) k = stopped ts lines

@@ -13,11 +13,14 @@ pub mod RunAgree
 pub mod Phases
 pub mod Grouping
 pub mod PhaseStep
+pub mod Walk
 pub mod Steady
 pub mod FrameFold
 pub mod RootPhases
 pub mod Planned
 pub mod Moments
+pub mod Past
+pub mod RunVersions
 pub mod Examples
 pub mod RunExamples
 pub mod RunLawful

@@ -319,7 +319,7 @@ module _ (first : ℕ) (capacity : List ℕ → ℕ) (trace : Bool) where
   -- each task raises the moment once
   raised_each : (ts : List Task) (st : State) → OnGoes (λ (u : State). u.world.moment ≡ st.world.moment + length ts) (after ts (Goes st))
   raised_each [] st = omega arith
-  raised_each (t ∷ ts) st = on (course_after (moments first) capacity trace st t) (task_steady (moments first) capacity trace st t)
+  raised_each (t ∷ ts) st = on (course_after (moments first) capacity trace st t) (task_steady capacity (moments first) trace st t)
     where
       stopped : (us : List Task) (lines : _) → OnGoes (λ (u : State). u.world.moment ≡ st.world.moment + suc (length ts)) (after us (Stops lines))
       stopped [] lines = tt
@@ -330,10 +330,15 @@ module _ (first : ℕ) (capacity : List ℕ → ℕ) (trace : Bool) where
       further next (Goes u) e k = omega (arith, e, k)
       further next (Stops lines) e k = tt
 
-      on : (course : Course) → IsAfter (moments first) capacity trace (record (st.world) { moment = st.world.moment + 1 }) course
+      on : (course : Course) → IsAfter capacity (moments first) trace (record (st.world) { moment = st.world.moment + 1 }) course
           → OnGoes (λ (u : State). u.world.moment ≡ st.world.moment + suc (length ts)) (after ts course)
       on (Goes next) k = further next (after ts (Goes next)) k.moment (raised_each ts next)
       on (Stops lines) k = stopped ts lines
+
+-- how many tasks a run has
+pub few_tasks_in_run : (files : List ℕ → SceneFile) (s : Scenario) → IsOrdered s → s.frames ≤ 100000 → length s.system ≤ 256 → length (tasks_of_run files s) ≤ 26200000
+few_tasks_in_run files s ordered frames systems =
+    let a = length_steps s ordered in few_in_run files s (steps_of s) (omega (arith, a, systems)) frames
 
 -- each moment of a run is a moment that versions can stand for
 pub run_has_moments : (trace : Bool) (files : List ℕ → SceneFile) (s : Scenario) → IsOrdered s → s.frames ≤ 100000 → length s.system ≤ 256 → (n : ℕ)
@@ -344,8 +349,7 @@ run_has_moments trace files s ordered frames systems n =
   where
     few : length (take n (tasks_of_run files s)) ≤ 26200000
     few =
-        let a = length_steps s ordered in
-        let b = few_in_run files s (steps_of s) (omega (arith, a, systems)) frames in
+        let b = few_tasks_in_run files s ordered frames systems in
         let c = take_few n (tasks_of_run files s) in
         omega (arith, b, c)
 

@@ -39,7 +39,7 @@ ghost use Rattle.run_laws.specs.Agree.{CellsAgree, RowAgree, OthersAgree};
 ghost use Rattle.run_laws.specs.Entries.{AreDifferent};
 ghost use Rattle.run_laws.specs.Lawful.{IsLawfulState, StepSuits, OnGoes};
 ghost use Rattle.run_laws.specs.Suits.{AllSuit, HasLawfulTexts, SystemSuits};
-ghost use Rattle.run_laws.specs.Versions.{run_versions, IsLast, HasMoments, state_versions, course_versions, StateHasMoments};
+ghost use Rattle.run_laws.specs.Versions.{run_versions, end_versions, IsLast, HasMoments, state_versions, course_versions, StateHasMoments};
 
 /// A row that matches has types that pass. So a block with a row that matches is never left out for its types.
 pub fn rows_that_match_have_types_that_pass()
@@ -110,6 +110,14 @@ pub fn versions_stand_for_moments_in_a_step()
     ensures { (first : ℕ) (capacity : List ℕ → ℕ) (trace : Bool) (st : State) (t : Task) → IsVersion first → StateHasMoments st
         → course_after versions capacity trace (state_versions (version_of first) st) t
         ≡ course_versions (version_of first) (course_after (moments first) capacity trace st t) }
+{}
+
+/// Versions of 32 bits stand for moments in the whole run of a scenario, which begins with its first system version: the
+/// same lines are written, and the world has versions instead of moments.
+pub fn versions_stand_for_moments_in_a_scenario()
+    ensures { (trace : Bool) (files : List ℕ → SceneFile) (s : Scenario) → IsVersion s.first_system_version → IsOrdered s → s.frames ≤ MOST_FRAMES → length s.system ≤ MOST_SYSTEMS
+        → end_of_run versions (capacity s.registry) trace files s (steps_of s) s.first_system_version
+        ≡ end_versions (version_of s.first_system_version) (outcome trace files s) }
 {}
 
 /// A phase of systems that don't conflict is the fold of its systems. What their items make of the first world, put
