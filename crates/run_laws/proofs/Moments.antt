@@ -93,30 +93,31 @@ distinct_less first (x ∷ xs) once above = (
 
 -- ---- the systems below the roots
 
-module _ (s : Scenario) (ordered : IsOrdered s) where
-  abbrev children : List Child
-  children = children_of s
-
+module _ (s : Scenario) where
   -- the roots and the declared groups come first
   group_at : (gs : List GroupEntry) (cs : List Child) (k : ℕ) → k < length gs → (get_or (map (group_child s) gs ++ cs) k no_child).is_group ≡ true
   group_at [] cs k h = absurd (omega (arith, h))
   group_at (g ∷ gs) cs zero h = refl
   group_at (g ∷ gs) cs (suc k) h = group_at gs cs k (omega (arith, h))
 
-  groups_first : (n : ℕ) → n < first_system s → (child_at children n).is_group ≡ true
+  pub groups_first : (n : ℕ) → n < first_system s → (child_at (children_of s) n).is_group ≡ true
   unfolding children_of
   groups_first zero h = refl
   groups_first (suc zero) h = refl
   groups_first (suc (suc zero)) h = refl
   groups_first (suc (suc (suc k))) h = group_at s.group (map (system_child s) s.system) k (omega (arith, h))
 
-  length_children : length children ≡ first_system s + length s.system
+  pub length_children : length (children_of s) ≡ first_system s + length s.system
   unfolding children_of
   length_children =
       let a = length-append (map (group_child s) s.group) (map (system_child s) s.system) in
       let b = length_map (group_child s) s.group in
       let c = length_map (system_child s) s.system in
       omega (arith, a, b, c)
+
+module _ (s : Scenario) (ordered : IsOrdered s) where
+  abbrev children : List Child
+  children = children_of s
 
   record IsPlaced (root n : ℕ) : Type 0 where
     within : n < length children
@@ -130,7 +131,7 @@ module _ (s : Scenario) (ordered : IsOrdered s) where
       record {
         within = ltb-true n (length children) inner.0;
         above = elim (cases_lt n (first_system s)) [
-          | inl below ↦ (let g : not true ≡ true = sym (ap not (groups_first n below)) ∙ inner.1 in absurd (cc))
+          | inl below ↦ (let g : not true ≡ true = sym (ap not (groups_first s n below)) ∙ inner.1 in absurd (cc))
           | inr past ↦ past
         ];
         below = eqb-true (root_of children n) root outer.1;
@@ -202,7 +203,7 @@ module _ (s : Scenario) (ordered : IsOrdered s) where
   few_below : length (systems_by_root children) ≤ length s.system
   few_below =
       let all = length_total (length children) (systems_by_root children) member_within in
-      let l = length_children in
+      let l = length_children s in
       let few = total_few (first_system s) (length children) (systems_by_root children) none_early at_most_once (omega (arith, l)) in
       omega (arith, all, l, few)
 

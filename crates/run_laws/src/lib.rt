@@ -1,11 +1,11 @@
 //! Laws of runs. Each is a function that does nothing, whose contract is the law.
 #![tactic(auto)]
 
-ghost use Rattle.std.specs.Prelude.{◌≡◌, ◌↔◌, ℕ, ◌≤◌, Bool, true, List, ◌∷◌, ◌++◌, length, map, filter, Option, option_map};
+ghost use Rattle.std.specs.Prelude.{◌≡◌, ◌↔◌, ℕ, ◌<◌, ◌≤◌, Bool, true, List, ◌∷◌, ◌++◌, length, map, filter, Option, None, option_map};
 ghost use Rattle.std.specs.List.{flat_map};
 ghost use Rattle.std.specs.List.Sorted.{IsPermutation, IsSortedBy};
 ghost use Rattle.ent_types.specs.declared.type_info.TypeInfo.{TypeInfo};
-ghost use Rattle.ent_types.specs.declared.limits.TheConstants.{MOST_FRAMES, MOST_MOMENTS, MOST_SYSTEMS};
+ghost use Rattle.ent_types.specs.declared.limits.TheConstants.{MOST_FRAMES, MOST_MOMENTS, MOST_SYSTEMS, MOST_TYPES};
 ghost use Rattle.ent_types.specs.declared.point.Point.TheVariants.{BeginInitialization, EndInitialization, BeginSimulation, EndSimulation, BeginPresentation};
 ghost use Rattle.ent_types.specs.Registries.{IsLawfulRegistry};
 ghost use Rattle.ent_types.specs.Versions.{version_of, IsMoment, IsVersion};
@@ -19,7 +19,10 @@ ghost use Rattle.expr_eval.specs.Values.{OtherRows};
 ghost use Rattle.scenario_record.specs.declared.plan.Step.{Step};
 ghost use Rattle.scenario_record.specs.declared.record.Scenario.{Scenario};
 ghost use Rattle.scenario_record.specs.declared.record.SystemEntry.{SystemEntry};
+ghost use Rattle.scenario_check.specs.Checks.{first_fault};
 ghost use Rattle.scenario_check.specs.Planned.{steps_of as steps_in_simulation};
+ghost use Rattle.scenario_check.specs.Touched.{access_of};
+ghost use Rattle.system_order.specs.Roots.{IsForest};
 ghost use Rattle.run_model.specs.Clock.{Clock, moments, versions};
 ghost use Rattle.run_model.specs.Query.{matches, passes, visits};
 ghost use Rattle.run_model.specs.LawfulQuery.{IsLawfulQuery, SomeBitsMatch};
@@ -29,9 +32,9 @@ ghost use Rattle.run_model.specs.Buffers.{before, arranged, shared_key, shared_n
 ghost use Rattle.run_model.specs.Playback.{playback};
 ghost use Rattle.run_model.specs.Tasks.{Task};
 ghost use Rattle.run_model.specs.Loads.{SceneFile};
-ghost use Rattle.run_model.specs.Steps.{steps_of, IsOrdered, AreUnplaced};
+ghost use Rattle.run_model.specs.Steps.{children_of, steps_of, IsOrdered, AreUnplaced};
 ghost use Rattle.run_model.specs.Frames.{State, Goes, course_after, course_after_all, end_of_run};
-ghost use Rattle.run_model.specs.Phases.{touches, phases, Turn, turn_of, AreApart, world_each, outputs_each, joined, joined_outputs};
+ghost use Rattle.run_model.specs.Phases.{touches, conflicts, accesses_conflict, phases, Turn, turn_of, AreApart, world_each, outputs_each, joined, joined_outputs};
 ghost use Rattle.run_model.specs.PhaseSteps.{Numbered, number_of, tasks_of_phase, turns_of, after_phase};
 ghost use Rattle.run_model.specs.FrameParts.{EventsPart, PointPart, system_numbers, frame_parts, phases_below, end_by_phases};
 ghost use Rattle.run_model.specs.Outcome.{first_moment, course_of_first, outcome};
@@ -127,6 +130,12 @@ pub fn phases_are_the_fold_of_their_systems()
         → (world_each clock frame js w ≡ joined clock frame js w) × (outputs_each clock frame js w ≡ joined_outputs clock frame w w.moment js) }
 {}
 
+/// Two systems conflict if and only if what their plan says of them conflicts.
+pub fn plans_say_what_conflicts()
+    ensures { (registry : List TypeInfo) (s r : SystemEntry) → ((t : ℕ) → In t (writes s) → t < MOST_TYPES) → ((t : ℕ) → In t (writes r) → t < MOST_TYPES)
+        → accesses_conflict (access_of registry s) (access_of registry r) ≡ conflicts registry s r }
+{}
+
 /// No two systems of a phase conflict, and the phases in order hold all systems in order.
 pub fn phases_hold_all_systems_apart()
     ensures apart { (registry : List TypeInfo) (last : SystemEntry → Option ℕ) (ss q : List SystemEntry) → In q (phases registry ss)
@@ -146,6 +155,11 @@ pub fn phases_are_steps_of_a_run()
 /// Simulation.
 pub fn unplaced_systems_run_in_declared_order()
     ensures { (s : Scenario) → AreUnplaced s → steps_of s ≡ steps_in_simulation (length s.system) }
+{}
+
+/// In a scenario that passes its checks, the parent of each group is a root or an earlier group.
+pub fn checked_groups_are_a_forest()
+    ensures { (s : Scenario) → first_fault s ≡ None → IsForest (children_of s) }
 {}
 
 /// The steps of a frame have no system twice.

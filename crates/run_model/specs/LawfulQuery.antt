@@ -6,6 +6,7 @@ use Rattle.ent_types.specs.declared.value.Part.{Part}
 use Rattle.ent_types.specs.TypeLookups.{is_shared_at, is_enableable_at}
 use Rattle.world_model.specs.Members.{In, AreDistinct}
 use Rattle.world_model.specs.Fits.{Fits, IsKnown}
+use Rattle.world_model.specs.Row.{Cell}
 use Rattle.world_model.specs.Found.{Found}
 use Rattle.scenario_record.specs.declared.record.SystemEntry.{SystemEntry}
 use Rattle.run_model.specs.Query.{matches}
@@ -43,7 +44,7 @@ pub record IsLawfulFilter (registry : List TypeInfo) (s : SystemEntry) : Type 0 
 -- a row in which other types are disabled: of those that can be, the ones for which `off` holds
 abbrev pub with_bits : List TypeInfo → (ℕ → Bool) → Found → Found
 with_bits registry off x = record x {
-  row = record (x.row) { cells = map (λ c. record c { off = is_enableable_at registry c.type_id && off c.type_id }) x.row.cells };
+  row = record (x.row) { cells = map (λ (c : Cell). record c { off = is_enableable_at registry c.type_id && off c.type_id }) x.row.cells };
 }
 
 -- some choice of what is disabled in a row lets it match

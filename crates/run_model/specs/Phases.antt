@@ -8,6 +8,7 @@ use Rattle.world_model.specs.Row.{Cell, Row}
 use Rattle.world_model.specs.World.{Home, Block, World}
 use Rattle.world_model.specs.Write.{marked}
 use Rattle.expr_eval.specs.Values.{OtherRows}
+use Rattle.scenario_record.specs.declared.plan.Access.{Access}
 use Rattle.scenario_record.specs.declared.record.SystemEntry.{SystemEntry}
 use Rattle.run_model.specs.Clock.{Clock}
 use Rattle.run_model.specs.Query.{matches, passes, is_visited}
@@ -28,6 +29,10 @@ touches registry s = writes s ++ (reads s ++ named_types registry s)
 -- Two systems conflict where one writes a type that the other writes, reads or names.
 abbrev pub conflicts : List TypeInfo → SystemEntry → SystemEntry → Bool
 conflicts registry s r = meets (writes s) (touches registry r) || meets (writes r) (touches registry s)
+
+-- the same, by what a plan says of the two systems
+abbrev pub accesses_conflict : Access → Access → Bool
+accesses_conflict a b = meets a.writes (b.writes ++ (b.reads ++ b.named)) || meets b.writes (a.writes ++ (a.reads ++ a.named))
 
 -- ---- phases
 
