@@ -2,17 +2,16 @@
 use Rattle.std.proofs.Common.{◌≡◌, ℕ, ◌<◌, ◌≤◌, nat_eq, inl, inr, Bool, true, false, ◌||◌, if◌then◌else◌, List, [], ◌∷◌, ◌++◌, map, refl, sym, ap, ap₂, ◌∙◌, subst, arith}
 use Rattle.std.specs.Prelude.{nat_lt}
 use Rattle.std.specs.List.{list_any, flat_map}
-use Rattle.std.proofs.lemmas.Bool.{cases_lt, eqb-true, lt-ltb, ltb-false, ltb-true}
+use Rattle.std.proofs.lemmas.Bool.{cases_lt, eqb-true, ltb-false, ltb-true}
 use Rattle.ent_types.specs.declared.type_info.TypeInfo.{TypeInfo}
 use Rattle.ent_types.specs.TypeSets.{has_type, with_type, meets}
 use Rattle.ent_types.proofs.TypeSetLemmas.{has_type-with_type}
 use Rattle.world_model.specs.Members.{In}
-use Rattle.scenario_record.specs.declared.plan.Access.{Access}
 use Rattle.scenario_record.specs.declared.record.SystemEntry.{SystemEntry}
 use Rattle.scenario_record.specs.Uses.{Use, own_number, own_ref, looked_up, has_type as tested_type, on_type, made, uses_of}
 use Rattle.scenario_check.specs.Found.{put_type, with_types, set_of, read_types as types_read}
 use Rattle.scenario_check.specs.Touched.{access_of, written}
-use Rattle.run_model.specs.Touched.{read_types, read_by, named_types}
+use Rattle.run_model.specs.Touched.{read_types, named_types}
 use Rattle.run_model.specs.Job.{Text, Assigns, Switches, written_type, writes}
 use Rattle.expr_trees.specs.declared.tree.Assign.{Assign}
 use Rattle.expr_trees.specs.declared.tree.Switch.{Switch}
@@ -32,13 +31,13 @@ has_append t (x ∷ xs) ys = ap (λ b. nat_eq x t || b) (has_append t xs ys) ∙
 has_put : (set : List ℕ) (ty t : ℕ) → t < 256 → has_type (put_type set ty) t ≡ (nat_eq ty t || has_type set t)
 has_put set ty t h = by (nat_lt ty 256) refl
   where
+    other : (b : Bool) → nat_eq ty t ≡ b → nat_lt ty 256 ≡ false → b ≡ false
+    other true is e = absurd (let same = eqb-true ty t is in let past = ltb-false ty 256 e in omega (arith, same, past, h))
+    other false is e = refl
+
     by : (b : Bool) → nat_lt ty 256 ≡ b → has_type (if b then with_type set ty else set) t ≡ (nat_eq ty t || has_type set t)
     by true e = has_type-with_type set ty t
-    by false e = sym (ap (λ b. b || has_type set t) (other (nat_eq ty t) refl))
-      where
-        other : (b : Bool) → nat_eq ty t ≡ b → b ≡ false
-        other true is = absurd (let same = eqb-true ty t is in let past = ltb-false ty 256 e in omega (arith, same, past, h))
-        other false is = refl
+    by false e = sym (ap (λ b. b || has_type set t) (other (nat_eq ty t) refl e))
 
 has_types : (xs set : List ℕ) (t : ℕ) → t < 256 → has_type (with_types set xs) t ≡ (has_type xs t || has_type set t)
 has_types [] set t h = refl
@@ -62,12 +61,12 @@ in_the_set xs t h = has_types xs [] t h ∙ none (has_type xs t)
 past_put : (set : List ℕ) (ty t : ℕ) → 256 ≤ t → has_type (put_type set ty) t ≡ has_type set t
 past_put set ty t h = by (nat_lt ty 256) refl
   where
+    other : (b : Bool) → nat_eq ty t ≡ b → nat_lt ty 256 ≡ true → b ≡ false
+    other true is e = absurd (let same = eqb-true ty t is in let few = ltb-true ty 256 e in omega (arith, same, few, h))
+    other false is e = refl
+
     by : (b : Bool) → nat_lt ty 256 ≡ b → has_type (if b then with_type set ty else set) t ≡ has_type set t
-    by true e = has_type-with_type set ty t ∙ ap (λ b. b || has_type set t) (other (nat_eq ty t) refl)
-      where
-        other : (b : Bool) → nat_eq ty t ≡ b → b ≡ false
-        other true is = absurd (let same = eqb-true ty t is in let few = ltb-true ty 256 e in omega (arith, same, few, h))
-        other false is = refl
+    by true e = has_type-with_type set ty t ∙ ap (λ b. b || has_type set t) (other (nat_eq ty t) refl e)
     by false e = refl
 
 past_types : (xs set : List ℕ) (t : ℕ) → 256 ≤ t → has_type (with_types set xs) t ≡ has_type set t

@@ -1,6 +1,6 @@
 -- The types of a row pass if and only if some choice of what is disabled lets it match.
 use Rattle.std.proofs.Common.{◌≡◌, ℕ, nat_eq, inl, inr, Bool, true, false, not, ◌&&◌, ◌||◌, if◌then◌else◌, List, [], ◌∷◌, ◌++◌, length, map, filter, refl, sym, ap, ◌∙◌, subst, eqb-true}
-use Rattle.std.specs.List.{list_any, list_all}
+use Rattle.std.specs.List.{list_any}
 use Rattle.std.proofs.lemmas.Bool.{and_parts, cases_lt, false≢true}
 use Rattle.std.proofs.lemmas.List.{get_or_past}
 use Rattle.ent_types.specs.declared.type_info.TypeInfo.{TypeInfo}
@@ -73,22 +73,26 @@ has_filter p t (u ∷ us) h = by (p u) (nat_eq u t) refl refl (has_filter p t us
         let no_way : true ≡ false = sym h ∙ (sym (ap p (eqb-true u t f)) ∙ e) in absurd (cc)
     by false false e f rest = rest
 
+and_false : (b : Bool) → false ≡ (b && false)
+and_false true = refl
+and_false false = refl
+
 -- ---- bits
 
 module _ (registry : List TypeInfo) (off : ℕ → Bool) where
   abbrev set_bit : Cell → Cell
   set_bit c = record c { off = is_enableable_at registry c.type_id && off c.type_id }
 
+  absorb : (a b : Bool) → (a || (b && a)) ≡ a
+  absorb true b = refl
+  absorb false true = refl
+  absorb false false = refl
+
   any_set : (t : ℕ) (cells : List Cell)
       → list_any (λ (c : Cell). nat_eq c.type_id t && c.off) (map set_bit cells) ≡ (has_type (map cell_type cells) t && (is_enableable_at registry t && off t))
   any_set t [] = refl
   any_set t (c ∷ cs) = by (nat_eq c.type_id t) refl (any_set t cs)
     where
-      absorb : (a b : Bool) → (a || (b && a)) ≡ a
-      absorb true b = refl
-      absorb false true = refl
-      absorb false false = refl
-
       by : (b : Bool) → nat_eq c.type_id t ≡ b
           → list_any (λ (d : Cell). nat_eq d.type_id t && d.off) (map set_bit cs) ≡ (has_type (map cell_type cs) t && (is_enableable_at registry t && off t))
           → ((b && (is_enableable_at registry c.type_id && off c.type_id)) || list_any (λ (d : Cell). nat_eq d.type_id t && d.off) (map set_bit cs))
@@ -114,11 +118,7 @@ module _ (registry : List TypeInfo) (lawful : IsLawfulRegistry registry) (s : Sy
       by : (e : Bool) → is_enableable_at registry t ≡ e
           → (e && (has_type (filter (λ u. not (is_shared_at registry u)) x.home.types) t && (e && best t))) ≡ (has_type x.home.types t && (e && best t))
       by true h = ap (λ b. b && best t) (has_filter (λ u. not (is_shared_at registry u)) t x.home.types (ap not (enableable_is_own registry lawful t h)))
-      by false h = none (has_type x.home.types t)
-        where
-          none : (b : Bool) → false ≡ (b && false)
-          none true = refl
-          none false = refl
+      by false h = and_false (has_type x.home.types t)
 
   absorbed : (a b : Bool) → (a && not (a && b)) ≡ (a && not b)
   absorbed true b = refl

@@ -1,5 +1,5 @@
 -- The groups of a scenario that passes its checks are a forest: the parent of each is a root or an earlier group.
-use Rattle.std.proofs.Common.{◌≡◌, ℕ, ◌+◌, ◌-◌, ◌<◌, ◌≤◌, zero, suc, inl, inr, Bool, true, false, ◌||◌, cond, if◌then◌else◌, List, [], ◌∷◌, ◌++◌, length, map, Option, Some, None, get_or, refl, sym, ap, ◌∙◌, subst, append_assoc, arith}
+use Rattle.std.proofs.Common.{◌≡◌, ℕ, ◌+◌, ◌-◌, ◌<◌, ◌≤◌, zero, suc, inl, inr, Bool, true, false, ◌||◌, cond, if◌then◌else◌, List, [], ◌∷◌, ◌++◌, length, map, Option, Some, None, get_or, refl, sym, ap, ◌∙◌, append_assoc, arith}
 use Rattle.std.specs.Prelude.{nat_lt, unwrap_or}
 use Rattle.std.specs.List.{list_any, position, position_or_len}
 use Rattle.std.proofs.lemmas.Bool.{cases_lt, cond-true, lt-ltb, ltb-true}
@@ -16,7 +16,7 @@ use Rattle.system_order.specs.declared.child.Child.{Child}
 use Rattle.system_order.specs.Child.{child_at, no_child}
 use Rattle.system_order.specs.Roots.{IsForest}
 use Rattle.run_model.specs.Steps.{root_names, group_number, group_child, system_child, children_of, first_system}
-use Rattle.run_laws.proofs.Moments.{groups_first, length_children}
+use Rattle.run_laws.proofs.Moments.{groups_first}
 
 -- ---- places of names
 
@@ -86,7 +86,9 @@ module _ (s : Scenario) where
   parents_within : (cs : List Child) (earlier later : List GroupEntry) (known : List (List ℕ)) (i : ℕ) → s.group ≡ earlier ++ later → Known known earlier
       → orphan_from known i later ≡ None → (k : ℕ) → k < length later → (get_or (map (group_child s) later ++ cs) k no_child).parent < 3 + length earlier + k
   parents_within cs earlier [] known i is knows none k h = absurd (omega (arith, h))
-  parents_within cs earlier (g ∷ gs) known i is knows none k h = by (list_any (same_name g.parent) known) refl none k h
+  parents_within cs earlier (g ∷ gs) known i is knows none k h =
+      by (list_any (same_name g.parent) known) refl none k h
+      (λ rest m low. parents_within cs (earlier ++ g ∷ []) gs (g.name ∷ known) (i + 1) (is ∙ sym (append_assoc earlier (g ∷ []) gs)) knows_more rest m low)
     where
       names_are : root_names ++ names s.group ≡ (root_names ++ names earlier) ++ names (g ∷ gs)
       names_are = ap (λ xs. root_names ++ names xs) is ∙ (ap (λ xs. root_names ++ xs) (map_append (λ (x : GroupEntry). x.name) earlier (g ∷ gs)) ∙ sym (append_assoc root_names (names earlier) (names (g ∷ gs))))
@@ -100,20 +102,24 @@ module _ (s : Scenario) where
       one_more : length (earlier ++ g ∷ []) ≡ 1 + length earlier
       one_more = let a = length-append earlier (g ∷ []) in omega (arith, a)
 
-      at : (k : ℕ) → list_any (same_name g.parent) known ≡ true → orphan_from (g.name ∷ known) (i + 1) gs ≡ None → k < suc (length gs)
+      Later : Type 0
+      Later = orphan_from (g.name ∷ known) (i + 1) gs ≡ None → (m : ℕ) → m < length gs
+          → (get_or (map (group_child s) gs ++ cs) m no_child).parent < 3 + length (earlier ++ g ∷ []) + m
+
+      at : (k : ℕ) → list_any (same_name g.parent) known ≡ true → orphan_from (g.name ∷ known) (i + 1) gs ≡ None → k < suc (length gs) → Later
           → (get_or (map (group_child s) (g ∷ gs) ++ cs) k no_child).parent < 3 + length earlier + k
-      at zero e rest h =
+      at zero e rest h later =
           let a = number_within s.group g.parent (root_names ++ names earlier) (names (g ∷ gs)) names_are (sym (knows g.parent) ∙ e) in
           let b = length_map (λ (x : GroupEntry). x.name) earlier in
           omega (arith, a, b)
-      at (suc k) e rest h =
-          let a = parents_within cs (earlier ++ g ∷ []) gs (g.name ∷ known) (i + 1) (is ∙ sym (append_assoc earlier (g ∷ []) gs)) knows_more rest k (omega (arith, h)) in
+      at (suc k) e rest h later =
+          let a = later rest k (omega (arith, h)) in
           omega (arith, a, one_more)
 
       by : (b : Bool) → list_any (same_name g.parent) known ≡ b → (if b then orphan_from (g.name ∷ known) (i + 1) gs else Some i) ≡ None
-          → (k : ℕ) → k < suc (length gs) → (get_or (map (group_child s) (g ∷ gs) ++ cs) k no_child).parent < 3 + length earlier + k
-      by true e rest k h = at k e rest h
-      by false e rest k h = absurd (cc)
+          → (k : ℕ) → k < suc (length gs) → Later → (get_or (map (group_child s) (g ∷ gs) ++ cs) k no_child).parent < 3 + length earlier + k
+      by true e rest k h later = at k e rest h later
+      by false e rest k h later = absurd (cc)
 
   any_parent : (ys : List SystemEntry) (k : ℕ) → (get_or (map (system_child s) ys) k no_child).parent < 3 + length s.group
   any_parent [] zero = omega arith

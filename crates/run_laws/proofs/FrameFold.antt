@@ -2,19 +2,18 @@
 use Rattle.std.proofs.Common.{◌≡◌, ℕ, ◌⊎◌, inl, inr, Bool, true, false, if◌then◌else◌, List, [], ◌∷◌, ◌++◌, map, Option, Some, None, refl, sym, ap, ap₂, ◌∙◌, subst, append_assoc, slice_get}
 use Rattle.std.specs.List.{flat_map, range_with_len}
 use Rattle.std.proofs.lemmas.List.{append-nil}
-use Rattle.ent_types.specs.declared.point.Point.{Point}
 use Rattle.world_model.specs.Members.{In, AreDistinct}
-use Rattle.world_laws.proofs.Members.{in_append, map_append}
+use Rattle.world_laws.proofs.Members.{map_append}
 use Rattle.scenario_record.specs.declared.plan.Step.{Step}
 use Rattle.scenario_record.specs.declared.plan.Step.TheVariants.{Events, Play, Run}
 use Rattle.scenario_record.specs.declared.record.Scenario.{Scenario}
 use Rattle.scenario_record.specs.declared.record.SystemEntry.{SystemEntry}
 use Rattle.run_model.specs.Clock.{Clock}
 use Rattle.run_model.specs.Loads.{SceneFile}
-use Rattle.run_model.specs.Tasks.{FrameStep, DoesEvents, Plays, Runs, Task, frame_events_from, runs_in, run_step, frame_steps_of, frame_tasks, tasks_of}
-use Rattle.run_model.specs.Frames.{State, Course, Goes, Stops, started, step_done, course_after, course_after_all, end_of, end_of_run}
+use Rattle.run_model.specs.Tasks.{FrameStep, DoesEvents, Plays, Runs, Task, frame_events_from, runs_in, run_step, frame_steps_of, frame_tasks}
+use Rattle.run_model.specs.Frames.{Line, State, Course, Goes, Stops, started, step_done, course_after, course_after_all, end_of, end_of_run}
 use Rattle.run_model.specs.Phases.{conflicts, phases_by, Turn, AreApart}
-use Rattle.run_model.specs.PhaseSteps.{Numbered, number_of, tasks_of_phase, turns_of, with_outputs, after_phase}
+use Rattle.run_model.specs.PhaseSteps.{Numbered, number_of, tasks_of_phase, turns_of, after_phase}
 use Rattle.run_model.specs.FrameParts.{FramePart, EventsPart, PointPart, PhasePart, parts_from, do_conflict, conflict_at, does_run, runs_at, frame_parts, numbered, systems_at, system_numbers, part_done, course_after_parts, course_after_frames, end_by_phases}
 use Rattle.run_laws.specs.Lawful.{OnGoes}
 use Rattle.run_laws.proofs.Grouping.{AreFreeOf, phases_free, whole_by, conflicts_turned}
@@ -54,6 +53,9 @@ module _ (clock : Clock) (capacity : List ℕ → ℕ) (trace : Bool) (files : L
   abbrev by_steps : List Task → Course → Course
   by_steps tasks course = course_after_all clock capacity trace tasks course
 
+  abbrev to_task : FrameStep → Task
+  to_task d = record { frame = frame; step = d }
+
   -- the tasks of the systems with these numbers
   abbrev tasks_at : List ℕ → List Task
   tasks_at ns = tasks_of_phase frame (systems_at s ns)
@@ -80,18 +82,17 @@ module _ (clock : Clock) (capacity : List ℕ → ℕ) (trace : Bool) (files : L
       by (Some y) e (inl h) rest = (n, inl refl, e ∙ ap (λ (t : Turn). Some t.system) (sym h))
       by (Some y) e (inr j) rest = later (rest j)
 
+  free_turn : (n : ℕ) (y : SystemEntry) → slice_get s.system n ≡ Some y → (k : Turn) (m : ℕ) → slice_get s.system m ≡ Some k.system
+      → conflict_at s m n ≡ false → conflicts s.registry y k.system ≡ false
+  free_turn n y e k m is h = conflicts_turned s.registry y k.system ∙ (sym (ap₂ (do_conflict s.registry) is e) ∙ h)
+
   apart_at : (st : State) (q : List ℕ) → AreFreeOf (conflict_at s) q → AreApart s.registry (turns_at st (systems_at s q))
   apart_at st [] a = tt
   apart_at st (n ∷ ns) a = by (slice_get s.system n) refl (apart_at st ns a.1)
     where
       by : (o : Option SystemEntry) → slice_get s.system n ≡ o → AreApart s.registry (turns_at st (systems_at s ns)) → AreApart s.registry (turns_at st (numbered n o ++ systems_at s ns))
       by None e rest = rest
-      by (Some y) e rest = ((λ k i. let (m, j, is) = in_turns st k ns i in free k m is (a.0 m j)), rest)
-        where
-          free : (k : Turn) (m : ℕ) → slice_get s.system m ≡ Some k.system → conflict_at s m n ≡ false → conflicts s.registry y k.system ≡ false
-          free k m is h =
-              conflicts_turned s.registry y k.system
-              ∙ (sym (ap₂ (do_conflict s.registry) is e) ∙ h)
+      by (Some y) e rest = ((λ k i. let (m, j, is) = in_turns st k ns i in free_turn n y e k m is (a.0 m j)), rest)
 
   in_numbers : (m : ℕ) (ns : List ℕ) → In m (map number_of (systems_at s ns)) → In m ns
   in_numbers m [] i = absurd i
@@ -145,7 +146,7 @@ module _ (clock : Clock) (capacity : List ℕ → ℕ) (trace : Bool) (files : L
   tasks_append : (ns ms : List ℕ) → tasks_at (ns ++ ms) ≡ tasks_at ns ++ tasks_at ms
   tasks_append ns ms =
       ap (tasks_of_phase frame) (systems_append ns ms)
-      ∙ map_append (λ (y : Numbered). (let t : Task = record { frame = frame; step = Runs y.number y.system } in t)) (systems_at s ns) (systems_at s ms)
+      ∙ map_append (λ (y : Numbered). to_task (Runs y.number y.system)) (systems_at s ns) (systems_at s ms)
 
   steps_done : (qs : List (List ℕ)) → ((q : List ℕ) → In q qs → AreFreeOf (conflict_at s) q) → ((q : List ℕ) → In q qs → AreDistinct q)
       → (st : State) → IsOf st → by_steps (tasks_at (flat_map (λ p. p) qs)) (Goes st) ≡ Goes (after_phases qs st)
@@ -167,7 +168,7 @@ module _ (clock : Clock) (capacity : List ℕ → ℕ) (trace : Bool) (files : L
       ap (λ ns. by_steps (tasks_at ns) (Goes st)) (sym (whole_by (conflict_at s) systems))
       ∙ steps_done (groups systems) (phases_free (conflict_at s) systems) (λ q i. distinct_part (groups systems) q i (subst AreDistinct (sym (whole_by (conflict_at s) systems)) distinct)) st h
 
-  both_stop : (parts : List FramePart) (tasks : List Task) (lines : _) → by_parts parts (Stops lines) ≡ by_steps tasks (Stops lines)
+  both_stop : (parts : List FramePart) (tasks : List Task) (lines : List Line) → by_parts parts (Stops lines) ≡ by_steps tasks (Stops lines)
   both_stop [] [] lines = refl
   both_stop [] (t ∷ ts) lines = refl
   both_stop (p ∷ ps) [] lines = refl
@@ -189,15 +190,15 @@ module _ (clock : Clock) (capacity : List ℕ → ℕ) (trace : Bool) (files : L
       → ((st : State) → part_done clock capacity trace files s frame st p ≡ step_done clock capacity trace frame st d) → Folds [] steps
       → (st : State) → IsOf st
       → by_parts (map PhasePart (groups systems) ++ p ∷ parts_with [] steps) (Goes st)
-      ≡ by_steps (tasks_at systems ++ record { frame = frame; step = d } ∷ frame_tasks files s frame steps) (Goes st)
+      ≡ by_steps (tasks_at systems ++ to_task d ∷ frame_tasks files s frame steps) (Goes st)
   unfolding course_after
   closed systems p d steps distinct does rest st h =
       parts_done (groups systems) (p ∷ parts_with [] steps) st
       ∙ (ap (by_parts (parts_with [] steps)) (does (after_phases (groups systems) st))
       ∙ (on (step_done clock capacity trace frame (after_phases (groups systems) st) d)
-      (task_steady capacity clock trace (after_phases (groups systems) st) (record { frame = frame; step = d }))
-      ∙ sym (steps_append (tasks_at systems) (record { frame = frame; step = d } ∷ frame_tasks files s frame steps) (Goes st)
-      ∙ ap (by_steps (record { frame = frame; step = d } ∷ frame_tasks files s frame steps)) (systems_done systems distinct st h))))
+      (task_steady capacity clock trace (after_phases (groups systems) st) (to_task d))
+      ∙ sym (steps_append (tasks_at systems) (to_task d ∷ frame_tasks files s frame steps) (Goes st)
+      ∙ ap (by_steps (to_task d ∷ frame_tasks files s frame steps)) (systems_done systems distinct st h))))
     where
       on : (course : Course) → IsAfter capacity clock trace (record ((after_phases (groups systems) st).world) { moment = clock.next (after_phases (groups systems) st).world.moment }) course
           → by_parts (parts_with [] steps) course ≡ by_steps (frame_tasks files s frame steps) course
@@ -221,9 +222,6 @@ module _ (clock : Clock) (capacity : List ℕ → ℕ) (trace : Bool) (files : L
       (folds steps (systems ++ n ∷ []) (subst AreDistinct (sym (append_assoc systems (n ∷ []) (system_numbers steps))) distinct) st h)
       (folds steps systems (distinct_without systems n (system_numbers steps) distinct) st h)
     where
-      to_task : FrameStep → Task
-      to_task d = record { frame = frame; step = d }
-
       -- a system that runs
       runs : (y : SystemEntry) → slice_get s.system n ≡ Some y
           → by_parts (parts_with (systems ++ n ∷ []) steps) (Goes st) ≡ by_steps (tasks_with (systems ++ n ∷ []) steps) (Goes st)
@@ -233,18 +231,21 @@ module _ (clock : Clock) (capacity : List ℕ → ℕ) (trace : Bool) (files : L
           ∙ ap (λ ts. by_steps (ts ++ frame_tasks files s frame steps) (Goes st)) (tasks_append systems (n ∷ []) ∙ ap (λ (o : Option SystemEntry). tasks_at systems ++ tasks_of_phase frame (numbered n o ++ [])) e)
           ∙ ap (λ ts. by_steps ts (Goes st)) (append_assoc (tasks_at systems) (to_task (Runs n y) ∷ []) (frame_tasks files s frame steps))
 
+      on : (y : SystemEntry) → slice_get s.system n ≡ Some y
+          → by_parts (parts_with (systems ++ n ∷ []) steps) (Goes st) ≡ by_steps (tasks_with (systems ++ n ∷ []) steps) (Goes st)
+          → by_parts (parts_with systems steps) (Goes st) ≡ by_steps (tasks_with systems steps) (Goes st)
+          → (b : Bool) → by_parts (parts_with (if b then systems ++ n ∷ [] else systems) steps) (Goes st)
+          ≡ by_steps (tasks_at systems ++ map to_task ((if b then Runs n y ∷ [] else []) ++ flat_map (frame_steps_of files s frame) steps)) (Goes st)
+      on y e more rest true = runs y e more
+      on y e more rest false = rest
+
       by : (o : Option SystemEntry) → slice_get s.system n ≡ o
           → by_parts (parts_with (systems ++ n ∷ []) steps) (Goes st) ≡ by_steps (tasks_with (systems ++ n ∷ []) steps) (Goes st)
           → by_parts (parts_with systems steps) (Goes st) ≡ by_steps (tasks_with systems steps) (Goes st)
           → by_parts (parts_with (if does_run frame o then systems ++ n ∷ [] else systems) steps) (Goes st)
           ≡ by_steps (tasks_at systems ++ map to_task (run_step files s frame n o ++ flat_map (frame_steps_of files s frame) steps)) (Goes st)
       by None e more rest = rest
-      by (Some y) e more rest = on (runs_in frame y)
-        where
-          on : (b : Bool) → by_parts (parts_with (if b then systems ++ n ∷ [] else systems) steps) (Goes st)
-              ≡ by_steps (tasks_at systems ++ map to_task ((if b then Runs n y ∷ [] else []) ++ flat_map (frame_steps_of files s frame) steps)) (Goes st)
-          on true = runs y e more
-          on false = rest
+      by (Some y) e more rest = on y e more rest (runs_in frame y)
 
 -- ---- all frames
 
@@ -252,21 +253,22 @@ module _ (clock : Clock) (capacity : List ℕ → ℕ) (trace : Bool) (files : L
   -- the tasks of a frame leave the types of the world
   tasks_types : (ts : List Task) (st : State) → OnGoes (λ (u : State). u.world.registry ≡ st.world.registry) (course_after_all clock capacity trace ts (Goes st))
   tasks_types [] st = refl
-  tasks_types (t ∷ ts) st = on (course_after clock capacity trace st t) (task_steady capacity clock trace st t)
+  tasks_types (t ∷ ts) st = on (course_after clock capacity trace st t) (task_steady capacity clock trace st t) (tasks_types ts)
     where
       further : (next : State) (course : Course) → next.world.registry ≡ st.world.registry
           → OnGoes (λ (u : State). u.world.registry ≡ next.world.registry) course → OnGoes (λ (u : State). u.world.registry ≡ st.world.registry) course
       further next (Goes u) e k = k ∙ e
       further next (Stops lines) e k = tt
 
-      stopped : (ts : List Task) (lines : _) → OnGoes (λ (u : State). u.world.registry ≡ st.world.registry) (course_after_all clock capacity trace ts (Stops lines))
+      stopped : (ts : List Task) (lines : List Line) → OnGoes (λ (u : State). u.world.registry ≡ st.world.registry) (course_after_all clock capacity trace ts (Stops lines))
       stopped [] lines = tt
       stopped (t ∷ ts) lines = tt
 
       on : (course : Course) → IsAfter capacity clock trace (record (st.world) { moment = clock.next st.world.moment }) course
+          → ((next : State) → OnGoes (λ (u : State). u.world.registry ≡ next.world.registry) (course_after_all clock capacity trace ts (Goes next)))
           → OnGoes (λ (u : State). u.world.registry ≡ st.world.registry) (course_after_all clock capacity trace ts course)
-      on (Goes next) k = further next (course_after_all clock capacity trace ts (Goes next)) k.types (tasks_types ts next)
-      on (Stops lines) k = stopped ts lines
+      on (Goes next) k rest = further next (course_after_all clock capacity trace ts (Goes next)) k.types (rest next)
+      on (Stops lines) k rest = stopped ts lines
 
   frames_fold : (frames : List ℕ) (st : State) → st.world.registry ≡ s.registry
       → course_after_frames clock capacity trace files s steps frames (Goes st)
@@ -275,26 +277,28 @@ module _ (clock : Clock) (capacity : List ℕ → ℕ) (trace : Bool) (files : L
   frames_fold [] st h = refl
   frames_fold (frame ∷ frames) st h =
       ap (course_after_frames clock capacity trace files s steps frames) (folds clock capacity trace files s frame steps [] distinct st h)
-      ∙ (on (course_after_all clock capacity trace (frame_tasks files s frame steps) (Goes st)) (tasks_types (frame_tasks files s frame steps) st)
+      ∙ (on (course_after_all clock capacity trace (frame_tasks files s frame steps) (Goes st)) (tasks_types (frame_tasks files s frame steps) st) (frames_fold frames)
       ∙ sym (steps_append clock capacity trace files s frame (frame_tasks files s frame steps) (flat_map (λ frame. frame_tasks files s frame steps) frames) (Goes st)))
     where
-      stops : (frames : List ℕ) (lines : _) → course_after_frames clock capacity trace files s steps frames (Stops lines) ≡ Stops lines
-      stops [] lines = refl
-      stops (f ∷ fs) lines = ap (course_after_frames clock capacity trace files s steps fs) (stop (frame_parts s f steps)) ∙ stops fs lines
-        where
-          stop : (ps : List FramePart) → course_after_parts clock capacity trace files s f ps (Stops lines) ≡ Stops lines
-          stop [] = refl
-          stop (p ∷ ps) = refl
+      stop : (f : ℕ) (ps : List FramePart) (lines : List Line) → course_after_parts clock capacity trace files s f ps (Stops lines) ≡ Stops lines
+      stop f [] lines = refl
+      stop f (p ∷ ps) lines = refl
 
-      stay : (ts : List Task) (lines : _) → course_after_all clock capacity trace ts (Stops lines) ≡ Stops lines
+      stops : (frames : List ℕ) (lines : List Line) → course_after_frames clock capacity trace files s steps frames (Stops lines) ≡ Stops lines
+      stops [] lines = refl
+      stops (f ∷ fs) lines = ap (course_after_frames clock capacity trace files s steps fs) (stop f (frame_parts s f steps) lines) ∙ stops fs lines
+
+      stay : (ts : List Task) (lines : List Line) → course_after_all clock capacity trace ts (Stops lines) ≡ Stops lines
       stay [] lines = refl
       stay (t ∷ ts) lines = refl
 
       on : (course : Course) → OnGoes (λ (u : State). u.world.registry ≡ st.world.registry) course
+          → ((next : State) → next.world.registry ≡ s.registry → course_after_frames clock capacity trace files s steps frames (Goes next)
+          ≡ course_after_all clock capacity trace (flat_map (λ frame. frame_tasks files s frame steps) frames) (Goes next))
           → course_after_frames clock capacity trace files s steps frames course
           ≡ course_after_all clock capacity trace (flat_map (λ frame. frame_tasks files s frame steps) frames) course
-      on (Goes next) k = frames_fold frames next (k ∙ h)
-      on (Stops lines) k = stops frames lines ∙ sym (stay (flat_map (λ frame. frame_tasks files s frame steps) frames) lines)
+      on (Goes next) k rest = rest next (k ∙ h)
+      on (Stops lines) k rest = stops frames lines ∙ sym (stay (flat_map (λ frame. frame_tasks files s frame steps) frames) lines)
 
   pub phases_are_run : (moment : ℕ) → end_by_phases clock capacity trace files s steps moment ≡ end_of_run clock capacity trace files s steps moment
   unfolding end_by_phases end_of_run

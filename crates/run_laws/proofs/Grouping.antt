@@ -25,9 +25,10 @@ conflicts_turned registry s r = or_swap (meets (writes s) (touches registry r)) 
 -- ---- by any test of conflicts
 
 -- no later one of these conflicts with an earlier one
-abbrev pub AreFreeOf : {S : Type 0} → (S → S → Bool) → List S → Type 0
-AreFreeOf conflict [] = Unit {0}
-AreFreeOf conflict (p ∷ ps) = ((k : _) → In k ps → conflict k p ≡ false) × AreFreeOf conflict ps
+module _ {S : Type 0} (conflict : S → S → Bool) where
+  abbrev pub AreFreeOf : List S → Type 0
+  AreFreeOf [] = Unit {0}
+  AreFreeOf (p ∷ ps) = ((k : S) → In k ps → conflict k p ≡ false) × AreFreeOf ps
 
 module _ {S : Type 0} (conflict : S → S → Bool) where
   free_one : (s : S) → AreFreeOf conflict (s ∷ [])

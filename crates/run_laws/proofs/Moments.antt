@@ -1,13 +1,14 @@
 -- How many moments a run has, and that the steps of a frame have each system once.
-use Rattle.std.proofs.Common.{◌≡◌, ℕ, ◌+◌, ◌*◌, ◌-◌, ◌<◌, ◌≤◌, zero, suc, inl, inr, eqb, Bool, true, false, not, ◌&&◌, cond, if◌then◌else◌, List, [], ◌∷◌, ◌++◌, length, map, take, Option, Some, None, get_or, refl, sym, ap, ap₂, ◌∙◌, subst, slice_get, arith}
-use Rattle.std.specs.List.{filter, flat_map, range_with_len}
+use Rattle.std.proofs.Common.{◌≡◌, ℕ, ◌+◌, ◌*◌, ◌-◌, ◌<◌, ◌≤◌, zero, suc, inl, inr, Bool, true, false, not, ◌&&◌, if◌then◌else◌, List, [], ◌∷◌, ◌++◌, length, map, take, Option, Some, None, get_or, refl, sym, ap, ◌∙◌, subst, slice_get, arith}
+use Rattle.std.specs.List.{flat_map, range_with_len}
 use Rattle.std.proofs.lemmas.Bool.{and_parts, cases_eq, cases_lt, eqb-true, ltb-true}
-use Rattle.std.proofs.lemmas.List.{append-nil, length-append}
+use Rattle.std.proofs.lemmas.List.{length-append}
 use Rattle.std.proofs.lemmas.List.FromFn.{length-range_with_len}
+use Rattle.ent_types.specs.declared.point.Point.TheVariants.{EndInitialization, BeginSimulation, EndSimulation, BeginPresentation}
 use Rattle.ent_types.specs.Versions.{IsMoment}
 use Rattle.world_model.specs.Members.{In, AreDistinct}
 use Rattle.world_model.specs.World.{capacity}
-use Rattle.world_laws.proofs.Members.{in_map, in_append, length_map}
+use Rattle.world_laws.proofs.Members.{in_map, length_map}
 use Rattle.scenario_record.specs.declared.plan.Step.{Step}
 use Rattle.scenario_record.specs.declared.plan.Step.TheVariants.{Events, Play, Run}
 use Rattle.scenario_record.specs.declared.record.GroupEntry.{GroupEntry}
@@ -15,13 +16,13 @@ use Rattle.scenario_record.specs.declared.record.Scenario.{Scenario}
 use Rattle.scenario_record.specs.declared.record.SystemEntry.{SystemEntry}
 use Rattle.system_order.specs.declared.child.Child.{Child}
 use Rattle.system_order.specs.Child.{child_at, no_child}
-use Rattle.system_order.specs.Roots.{systems_below, systems_by_root, is_system_below, root_of, times}
+use Rattle.system_order.specs.Roots.{systems_below, systems_by_root, is_system_below, root_of}
 use Rattle.system_order.proofs.ByRoot.{once_below_its_root}
-use Rattle.system_order.proofs.Tallies.{same, same_yes, same_no, tally, tally-append, count_is_tally}
+use Rattle.system_order.proofs.Tallies.{same_yes, same_no, tally, tally-append, count_is_tally}
 use Rattle.run_model.specs.Clock.{moments}
 use Rattle.run_model.specs.Loads.{SceneFile}
 use Rattle.run_model.specs.Tasks.{Task, FrameStep, Runs, runs_in, run_step, frame_steps_of, frame_tasks, tasks_of}
-use Rattle.run_model.specs.Frames.{State, Course, Goes, Stops, started, course_after, course_after_all}
+use Rattle.run_model.specs.Frames.{Line, State, Course, Goes, Stops, started, course_after, course_after_all}
 use Rattle.run_model.specs.Steps.{children_of, group_child, system_child, first_system, numbers_below, runs_below, steps_of, IsOrdered}
 use Rattle.run_model.specs.FrameParts.{system_numbers}
 use Rattle.run_model.specs.Outcome.{first_moment, tasks_of_run, course_of_first}
@@ -176,12 +177,12 @@ module _ (s : Scenario) (ordered : IsOrdered s) where
       let c = zero_at 2 (omega arith) in
       omega (arith, sum, a, b, c)
     where
+      by : (root : ℕ) (b : Bool) → is_system_below children root n ≡ b → (if b then 1 else 0) ≡ 0
+      by root true e = absurd (none root (placed_is root n e))
+      by root false e = refl
+
       zero_at : (root : ℕ) → root < 3 → tally n (below root) ≡ 0
-      zero_at root h = once_below root n h ∙ by (is_system_below children root n) refl
-        where
-          by : (b : Bool) → is_system_below children root n ≡ b → (if b then 1 else 0) ≡ 0
-          by true e = absurd (none root (placed_is root n e))
-          by false e = refl
+      zero_at root h = once_below root n h ∙ by root (is_system_below children root n) refl
 
   none_early : (n : ℕ) → n < first_system s → tally n (systems_by_root children) ≡ 0
   none_early n h = no_system n (λ root p. let a = p.above in absurd (omega (arith, a, h)))
@@ -265,6 +266,10 @@ module _ (s : Scenario) (ordered : IsOrdered s) where
 -- ---- tasks
 
 module _ (files : List ℕ → SceneFile) (s : Scenario) where
+  one_or_none : (d : FrameStep) (b : Bool) → length (if b then d ∷ [] else []) ≤ 1
+  one_or_none d true = omega arith
+  one_or_none d false = omega arith
+
   one_step : (frame : ℕ) (step : Step) → length (frame_steps_of files s frame step) ≤ 1
   one_step frame Events = omega arith
   one_step frame (Play point) = omega arith
@@ -272,11 +277,7 @@ module _ (files : List ℕ → SceneFile) (s : Scenario) where
     where
       at : (o : Option SystemEntry) → length (run_step files s frame n o) ≤ 1
       at None = omega arith
-      at (Some y) = by (runs_in frame y)
-        where
-          by : (b : Bool) → length (if b then Runs n y ∷ [] else []) ≤ 1
-          by true = omega arith
-          by false = omega arith
+      at (Some y) = one_or_none (Runs n y) (runs_in frame y)
 
   few_steps : (frame : ℕ) (steps : List Step) → length (flat_map (frame_steps_of files s frame) steps) ≤ length steps
   few_steps frame [] = omega arith
@@ -320,9 +321,9 @@ module _ (first : ℕ) (capacity : List ℕ → ℕ) (trace : Bool) where
   -- each task raises the moment once
   raised_each : (ts : List Task) (st : State) → OnGoes (λ (u : State). u.world.moment ≡ st.world.moment + length ts) (after ts (Goes st))
   raised_each [] st = omega arith
-  raised_each (t ∷ ts) st = on (course_after (moments first) capacity trace st t) (task_steady capacity (moments first) trace st t)
+  raised_each (t ∷ ts) st = on (course_after (moments first) capacity trace st t) (task_steady capacity (moments first) trace st t) (raised_each ts)
     where
-      stopped : (us : List Task) (lines : _) → OnGoes (λ (u : State). u.world.moment ≡ st.world.moment + suc (length ts)) (after us (Stops lines))
+      stopped : (us : List Task) (lines : List Line) → OnGoes (λ (u : State). u.world.moment ≡ st.world.moment + suc (length ts)) (after us (Stops lines))
       stopped [] lines = tt
       stopped (u ∷ us) lines = tt
 
@@ -332,9 +333,10 @@ module _ (first : ℕ) (capacity : List ℕ → ℕ) (trace : Bool) where
       further next (Stops lines) e k = tt
 
       on : (course : Course) → IsAfter capacity (moments first) trace (record (st.world) { moment = st.world.moment + 1 }) course
+          → ((next : State) → OnGoes (λ (u : State). u.world.moment ≡ next.world.moment + length ts) (after ts (Goes next)))
           → OnGoes (λ (u : State). u.world.moment ≡ st.world.moment + suc (length ts)) (after ts course)
-      on (Goes next) k = further next (after ts (Goes next)) k.moment (raised_each ts next)
-      on (Stops lines) k = stopped ts lines
+      on (Goes next) k rest = further next (after ts (Goes next)) k.moment (rest next)
+      on (Stops lines) k rest = stopped ts lines
 
 -- how many tasks a run has
 pub few_tasks_in_run : (files : List ℕ → SceneFile) (s : Scenario) → IsOrdered s → s.frames ≤ 100000 → length s.system ≤ 256 → length (tasks_of_run files s) ≤ 26200000

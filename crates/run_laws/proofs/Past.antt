@@ -1,5 +1,5 @@
 -- Every mark of a world is a moment from the first one up to its present moment, and each task keeps that.
-use Rattle.std.proofs.Common.{◌≡◌, ℕ, ◌+◌, ◌≤◌, ◌⊎◌, inl, inr, zero, suc, Bool, true, false, not, if◌then◌else◌, List, [], ◌∷◌, ◌++◌, map, filter, Option, Some, None, refl, sym, subst, slice_set, arith}
+use Rattle.std.proofs.Common.{◌≡◌, ℕ, ◌+◌, ◌≤◌, ◌⊎◌, inl, inr, zero, suc, Bool, true, false, not, if◌then◌else◌, List, [], ◌∷◌, ◌++◌, map, Option, Some, None, refl, sym, subst, slice_set, arith}
 use Rattle.ent_types.specs.declared.entity.Entity.{Entity}
 use Rattle.ent_types.specs.declared.type_info.TypeInfo.{TypeInfo}
 use Rattle.ent_types.specs.declared.value.Value.{Value}
@@ -191,16 +191,16 @@ module _ (capacity : List ℕ → ℕ) where
   in_set l (x ∷ xs) zero m (inl e) = inl (let is : l ≡ m = cc in is)
   in_set l (x ∷ xs) zero m (inr i) = inr (inr i)
   in_set l (x ∷ xs) (suc n) m (inl e) = inr (inl e)
-  in_set l (x ∷ xs) (suc n) m (inr i) = by (in_set l xs n m i)
+  in_set l (x ∷ xs) (suc n) m (inr i) = further (in_set l xs n m i)
     where
-      by : (l ≡ m) ⊎ In (Some l) xs → (l ≡ m) ⊎ In (Some l) (x ∷ xs)
-      by (inl e) = inl e
-      by (inr j) = inr (inr j)
+      further : (l ≡ m) ⊎ In (Some l) xs → (l ≡ m) ⊎ In (Some l) (x ∷ xs)
+      further (inl e) = inl e
+      further (inr j) = inr (inr j)
 
-  task_past : (first : ℕ) (trace : Bool) (st : State) (frame : ℕ) (step : FrameStep) → IsPastState st
-      → (u : State) → IsDone capacity Keep same onward operate_past moved_past (moments first) trace st (record { frame = frame; step = step }) u
+  task_past : (first : ℕ) (trace : Bool) (st : State) (step : FrameStep) → IsPastState st
+      → (u : State) → IsDone capacity Keep same onward operate_past moved_past (moments first) trace st step u
       → u.world.moment ≡ st.world.moment + 1 → IsPastState u
-  task_past first trace st frame step h u done now =
+  task_past first trace st step h u done now =
       record { world = done.world (raise_past st.world h.world); lasts = lasts step done.lasts }
     where
       old : (l : ℕ) → In (Some l) st.lasts → IsPast u.world.moment l
@@ -209,14 +209,14 @@ module _ (capacity : List ℕ → ℕ) where
       new : (l : ℕ) → l ≡ st.world.moment + 1 → IsPast u.world.moment l
       new l e = record { from_one = omega (arith, e); within = omega (arith, e, now) }
 
-      set : (n : ℕ) → u.lasts ≡ slice_set st.lasts n (Some (st.world.moment + 1)) → (l : ℕ) → In (Some l) u.lasts → IsPast u.world.moment l
-      set n e l i = by (in_set l st.lasts n (st.world.moment + 1) (subst (In (Some l)) e i))
-        where
-          by : (l ≡ st.world.moment + 1) ⊎ In (Some l) st.lasts → IsPast u.world.moment l
-          by (inl is) = new l is
-          by (inr j) = old l j
+      either : (l : ℕ) → (l ≡ st.world.moment + 1) ⊎ In (Some l) st.lasts → IsPast u.world.moment l
+      either l (inl is) = new l is
+      either l (inr j) = old l j
 
-      lasts : (step : FrameStep) → LastsAfter capacity Keep same onward operate_past moved_past (moments first) trace st (record { frame = frame; step = step }) u.lasts
+      set : (n : ℕ) → u.lasts ≡ slice_set st.lasts n (Some (st.world.moment + 1)) → (l : ℕ) → In (Some l) u.lasts → IsPast u.world.moment l
+      set n e l i = either l (in_set l st.lasts n (st.world.moment + 1) (subst (In (Some l)) e i))
+
+      lasts : (step : FrameStep) → LastsAfter capacity Keep same onward operate_past moved_past (moments first) trace st step u.lasts
           → (l : ℕ) → In (Some l) u.lasts → IsPast u.world.moment l
       lasts (DoesEvents es) e l i = old l (subst (In (Some l)) e i)
       lasts (Plays point) e l i = old l (subst (In (Some l)) e i)
@@ -229,7 +229,7 @@ module _ (capacity : List ℕ → ℕ) where
       (task_keeps capacity Keep same onward operate_past moved_past (moments first) trace (ran_past first) st t.frame t.step)
       (task_steady capacity (moments first) trace st t)
     where
-      on : (course : Course) → OnGoes (IsDone capacity Keep same onward operate_past moved_past (moments first) trace st t) course
+      on : (course : Course) → OnGoes (IsDone capacity Keep same onward operate_past moved_past (moments first) trace st t.step) course
           → IsAfter capacity (moments first) trace (record (st.world) { moment = st.world.moment + 1 }) course → OnGoes IsPastState course
-      on (Goes u) done k = task_past first trace st t.frame t.step h u done k.moment
+      on (Goes u) done k = task_past first trace st t.step h u done k.moment
       on (Stops lines) done k = tt

@@ -1,22 +1,23 @@
 -- Where no key places a system, the steps of a frame are those of all systems in declared order, in Simulation.
-use Rattle.std.proofs.Common.{◌≡◌, ℕ, ◌+◌, ◌-◌, ◌<◌, ◌≤◌, zero, suc, inl, inr, eqb, Bool, true, false, cond, List, [], ◌∷◌, ◌++◌, length, map, Option, Some, None, get_or, count_by, refl, sym, ap, ap₂, ◌∙◌, subst, arith}
-use Rattle.std.specs.Prelude.{codes, replicate}
-use Rattle.std.specs.List.{filter, flat_map, position, range_with_len, remove}
+use Rattle.std.proofs.Common.{◌≡◌, ℕ, ◌+◌, ◌-◌, ◌<◌, ◌≤◌, zero, suc, inl, inr, eqb, Bool, true, false, cond, not, List, [], ◌∷◌, ◌++◌, length, map, Option, Some, None, get_or, refl, ap, ap₂, ◌∙◌, arith}
+use Rattle.std.specs.Prelude.{codes, nat_lt, replicate, slice_index}
+use Rattle.std.specs.List.{filter, flat_map, position, position_or_len, range_with_len, remove}
+use Rattle.std.specs.Option.{option_map_or}
 use Rattle.std.proofs.lemmas.List.Sums.{sum_by-cons}
 use Rattle.ent_types.specs.declared.point.Point.TheVariants.{BeginInitialization, EndInitialization, BeginSimulation, EndSimulation, BeginPresentation}
 use Rattle.world_model.specs.Members.{In}
-use Rattle.scenario_record.specs.declared.plan.Step.{Step}
 use Rattle.scenario_record.specs.declared.plan.Step.TheVariants.{Events, Play, Run}
 use Rattle.scenario_record.specs.declared.record.Scenario.{Scenario}
 use Rattle.scenario_record.specs.declared.record.SystemEntry.{SystemEntry}
 use Rattle.scenario_check.specs.Planned.{steps_of as steps_in_simulation}
+use Rattle.system_order.specs.declared.child.Band.{Band}
 use Rattle.system_order.specs.declared.child.Band.TheVariants.{Middle}
 use Rattle.system_order.specs.declared.child.Child.{Child}
 use Rattle.system_order.specs.Child.{child_at, members, no_child, precedes}
 use Rattle.system_order.specs.Order.{opened, placed_in, spliced}
 use Rattle.system_order.specs.Place.{blockers_of, places}
 use Rattle.system_order.specs.Roots.{systems_below}
-use Rattle.run_model.specs.Steps.{group_number, root, system_child, children_of, first_system, runs_below, numbers_below, steps_of, IsUnplaced, AreUnplaced}
+use Rattle.run_model.specs.Steps.{group_number, children_named, band_of, root, group_child, system_child, children_of, first_system, numbers_below, steps_of, IsUnplaced, AreUnplaced}
 
 -- ---- lists
 
@@ -79,7 +80,7 @@ unfolding precedes
 none_precedes n a b =
     let x = child_simple n a in
     let y = child_simple n b in
-    rw (x.0, x.1.0, y.0, y.1.1) refl
+    rw (x.0, x.1, y.0, y.2) refl
 
 -- ---- without predecessors the places are the declared ones
 
@@ -88,11 +89,17 @@ no_blockers before none [] x = refl
 no_blockers before none (y ∷ ys) x =
     sum_by-cons (λ z. cond (before z x) 1 0) y ys ∙ ap₂ (λ b m. cond b 1 0 + m) (none y x) (no_blockers before none ys x)
 
+first_passes : (p : ℕ → Bool) (x : ℕ) (xs : List ℕ) → p x ≡ true → position p (x ∷ xs) ≡ Some 0
+first_passes p x xs h =
+    ap (λ b. (let k = cond (not b) (1 + position_or_len p xs) 0 in cond (nat_lt k (suc (length xs))) (Some k) None)) h
+
 places_stay : (before : ℕ → ℕ → Bool) → ((a b : ℕ) → before a b ≡ false) → (xs : List ℕ) → places before (length xs) xs ≡ xs
 unfolding places
 places_stay before none [] = refl
 places_stay before none (x ∷ xs) =
-    rw (no_blockers before none (x ∷ xs) x) (ap (λ ys. x ∷ ys) (places_stay before none xs))
+    ap (λ (o : Option ℕ). option_map_or (λ at. slice_index (x ∷ xs) at ∷ places before (length xs) (remove (x ∷ xs) at)) o [])
+    (first_passes (λ sibling. eqb (blockers_of before (x ∷ xs) sibling) 0) x xs (ap (λ m. eqb m 0) (no_blockers before none (x ∷ xs) x)))
+    ∙ ap (λ ys. x ∷ ys) (places_stay before none xs)
 
 -- ---- rows of systems stay
 
@@ -136,8 +143,8 @@ module _ (n : ℕ) where
       → members children number ≡ xs → ((x : ℕ) → In x xs → (3 ≤ x) × (x < 3 + n)) → systems_below children number ≡ xs
   unfolding spliced
   below_root number xs is_root is within =
-      ap (λ row. spliced children (2 + length (replicate n plain)) (row ++ [])) (is_root ∙ placed_as_declared number xs is)
-      ∙ (ap (spliced children (2 + length (replicate n plain))) (no_more xs) ∙ spliced_alone (2 + length (replicate n plain)) xs within)
+      ap (λ row. spliced children (suc (suc (length (replicate n plain)))) (row ++ [])) (is_root ∙ placed_as_declared number xs is)
+      ∙ (ap (spliced children (suc (suc (length (replicate n plain))))) (no_more xs) ∙ spliced_alone (suc (suc (length (replicate n plain)))) xs within)
     where
       no_more : (ys : List ℕ) → ys ++ [] ≡ ys
       no_more [] = refl
@@ -168,7 +175,10 @@ in_simulation = refl
 module _ (s : Scenario) (unplaced : AreUnplaced s) where
   child_is : (y : SystemEntry) → IsUnplaced y → system_child s y ≡ plain
   child_is y h =
-      rw (h.group, h.before, h.after, h.first, h.last, unplaced.groups, in_simulation) refl
+      ap₂ (λ (p : ℕ) (x : Band × List ℕ × List ℕ). (let c : Child = record { parent = p; is_group = false; band = x.0; before = x.1; after = x.2 } in c))
+      (ap₂ group_number unplaced.groups h.group ∙ in_simulation)
+      (ap₂ (λ b (x : List ℕ × List ℕ). (b, x.0, x.1)) (ap₂ band_of h.first h.last)
+      (ap₂ (λ xs ys. (xs, ys)) (ap (children_named s) h.before) (ap (children_named s) h.after)))
 
   systems_are : (ys : List SystemEntry) → ((y : SystemEntry) → In y ys → IsUnplaced y) → map (system_child s) ys ≡ replicate (length ys) plain
   systems_are [] h = refl
@@ -176,7 +186,9 @@ module _ (s : Scenario) (unplaced : AreUnplaced s) where
 
   children_are : children_of s ≡ plain_children (length s.system)
   unfolding children_of
-  children_are = rw unplaced.groups (ap (λ cs. root ∷ root ∷ root ∷ cs) (systems_are s.system unplaced.systems))
+  children_are =
+      ap (λ gs. root ∷ root ∷ root ∷ (map (group_child s) gs ++ map (system_child s) s.system)) unplaced.groups
+      ∙ ap (λ cs. root ∷ root ∷ root ∷ cs) (systems_are s.system unplaced.systems)
 
   first_is : first_system s ≡ 3
   first_is = ap (λ gs. 3 + length gs) unplaced.groups

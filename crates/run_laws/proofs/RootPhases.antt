@@ -1,13 +1,12 @@
 -- The phases of a frame are those of the running systems of each root.
-use Rattle.std.proofs.Common.{◌≡◌, ℕ, Bool, true, false, if◌then◌else◌, List, [], ◌∷◌, ◌++◌, map, filter, refl, sym, ap, ap₂, ◌∙◌, append_assoc}
+use Rattle.std.proofs.Common.{◌≡◌, ℕ, Bool, true, false, if◌then◌else◌, List, [], ◌∷◌, ◌++◌, map, filter, sym, ap, ◌∙◌, append_assoc}
 use Rattle.std.proofs.lemmas.List.{append-nil}
-use Rattle.ent_types.specs.declared.point.Point.{Point}
 use Rattle.ent_types.specs.declared.point.Point.TheVariants.{BeginInitialization, EndInitialization, BeginSimulation, EndSimulation, BeginPresentation}
 use Rattle.scenario_record.specs.declared.plan.Step.{Step}
-use Rattle.scenario_record.specs.declared.plan.Step.TheVariants.{Events, Play, Run}
+use Rattle.scenario_record.specs.declared.plan.Step.TheVariants.{Run}
 use Rattle.scenario_record.specs.declared.record.Scenario.{Scenario}
-use Rattle.run_model.specs.Steps.{numbers_below, runs_below, steps_of}
-use Rattle.run_model.specs.FrameParts.{FramePart, EventsPart, PointPart, PhasePart, parts_from, conflict_at, runs_at, frame_parts, phases_below}
+use Rattle.run_model.specs.Steps.{numbers_below, steps_of}
+use Rattle.run_model.specs.FrameParts.{FramePart, EventsPart, PointPart, parts_from, conflict_at, runs_at, frame_parts, phases_below}
 
 module _ (conflict : ℕ → ℕ → Bool) (runs : ℕ → Bool) where
   abbrev parts : List ℕ → List Step → List FramePart

@@ -1,21 +1,15 @@
 -- Worked cases of whole frames and runs, each by computing.
-use Rattle.std.proofs.Common.{◌≡◌, ℕ, pos, Bool, true, false, ◌&&◌, not, List, [], ◌∷◌, length, map, Some, None, refl}
+use Rattle.std.proofs.Common.{◌≡◌, ℕ, Bool, true, false, List, [], ◌∷◌, length, map, refl}
 use Rattle.std.specs.Prelude.{codes, replicate}
-use Rattle.ent_types.specs.declared.entity.Entity.{Entity}
 use Rattle.ent_types.specs.declared.kinds.Kind.TheVariants.{Plain}
 use Rattle.ent_types.specs.declared.kinds.FieldKind.TheVariants.{I64}
 use Rattle.ent_types.specs.declared.point.Point.TheVariants.{BeginInitialization, EndInitialization, BeginSimulation, EndSimulation, BeginPresentation}
 use Rattle.ent_types.specs.declared.type_info.TypeInfo.{TypeInfo}
-use Rattle.ent_types.specs.declared.value.Value.TheVariants.{Int}
-use Rattle.ent_types.specs.Registries.{built_in_types}
 use Rattle.ent_types.specs.Types.{column_size}
 use Rattle.chunk_layout.specs.Capacity.{capacity_of, greatest_up_to}
-use Rattle.world_model.specs.Row.{Cell, Row}
-use Rattle.world_model.specs.World.{Block, World}
+use Rattle.world_model.specs.World.{Block}
 use Rattle.world_model.specs.Found.{Found}
 use Rattle.world_model.specs.Enter.{enter}
-use Rattle.world_model.specs.Leave.{leave}
-use Rattle.world_model.specs.Write.{rewrite}
 use Rattle.world_model.specs.Operations.{operate}
 use Rattle.ent_types.specs.Versions.{version_of}
 use Rattle.expr_trees.specs.declared.tree.PartExpr.{PartExpr}
@@ -29,14 +23,13 @@ use Rattle.system_order.specs.Child.{members, precedes}
 use Rattle.system_order.specs.Order.{spliced}
 use Rattle.system_order.specs.Place.{places}
 use Rattle.run_model.specs.declared.lines.TraceLine.TheVariants.{Run as RunLine}
-use Rattle.run_model.specs.Buffers.{arranged, shared_key}
 use Rattle.run_model.specs.Query.{matches, passes}
 use Rattle.run_model.specs.LawfulQuery.{with_bits}
 use Rattle.run_model.specs.Loads.{SceneFile, Absent}
 use Rattle.run_model.specs.Run.{run}
 use Rattle.run_model.specs.Tasks.{spawned}
 use Rattle.run_model.specs.Steps.{group_number, children_of, steps_of}
-use Rattle.run_model.specs.Frames.{End, Finished, AtSharedKey, Line, Traced, course_after, end_of_run}
+use Rattle.run_model.specs.Frames.{End, Finished, AtSharedKey, Traced, course_after, end_of_run}
 use Rattle.run_model.specs.FrameParts.{EventsPart, PointPart, PhasePart, frame_parts}
 use Rattle.run_model.specs.Outcome.{outcome}
 use Rattle.run_laws.proofs.Examples.{registry, asks, points_home}
@@ -192,6 +185,6 @@ types_of_two_lists_pass = refl
 no_row_is_in_two_lists : (off : ℕ → Bool) → matches registry two_lists (with_bits registry off act_row) ≡ false
 no_row_is_in_two_lists off = by (off 4)
   where
-    by : (b : Bool) → (((not (b || false)) && true) && (true && (not (not (b || false) || false) && (true && (true && (true && true)))))) ≡ false
+    by : (b : Bool) → matches registry two_lists (with_bits registry (λ t. b) act_row) ≡ false
     by true = refl
     by false = refl

@@ -1,5 +1,5 @@
 -- Versions stand for moments in the whole run of a scenario.
-use Rattle.std.proofs.Common.{◌≡◌, ℕ, ◌+◌, ◌≤◌, zero, suc, inl, inr, Bool, List, [], ◌∷◌, length, map, fold, Option, Some, None, option_map, refl, sym, ap, ap₂, ◌∙◌, subst, arith}
+use Rattle.std.proofs.Common.{◌≡◌, ℕ, ◌+◌, ◌≤◌, zero, suc, inl, inr, Bool, false, List, [], ◌∷◌, length, map, fold, Option, Some, None, option_map, refl, ap, ap₂, ◌∙◌, arith}
 use Rattle.std.specs.Prelude.{replicate}
 use Rattle.std.specs.List.{range_with_len}
 use Rattle.ent_types.specs.declared.entity.Entity.{Entity}
@@ -7,20 +7,20 @@ use Rattle.ent_types.specs.Versions.{version_of, IsVersion, IsMoment}
 use Rattle.world_model.specs.Members.{In}
 use Rattle.world_model.specs.World.{World, empty_world, capacity}
 use Rattle.world_model.specs.Lawful.{IsPast}
-use Rattle.world_model.specs.Operations.{Operation, Create, On, SetEnabled, Reply, Made, Done, Skipped, Answer, operate}
+use Rattle.world_model.specs.Operations.{Create, On, SetEnabled, Reply, Made, Done, Skipped, Answer, operate}
 use Rattle.world_model.specs.Scenes.{switched_off, all_off}
-use Rattle.world_model.specs.Versions.{world_versions, answer_versions}
+use Rattle.world_model.specs.Versions.{world_versions}
 use Rattle.world_laws.proofs.Versions.{operate_turned}
 use Rattle.scenario_record.specs.declared.record.Scenario.{Scenario}
 use Rattle.scenario_record.specs.declared.record.SpawnEntry.{SpawnEntry}
 use Rattle.run_model.specs.Clock.{moments, versions}
 use Rattle.run_model.specs.Tasks.{Task, spawn_parts, after_row_spawned, after_spawn, spawned}
-use Rattle.run_model.specs.Frames.{State, Course, Goes, Stops, End, Finished, AtSharedKey, started, course_after, course_after_all, end_of, end_of_run}
+use Rattle.run_model.specs.Frames.{Line, State, Course, Goes, Stops, started, course_after, course_after_all, end_of, end_of_run}
 use Rattle.run_model.specs.Loads.{SceneFile}
 use Rattle.run_model.specs.Steps.{steps_of, IsOrdered}
 use Rattle.run_model.specs.Outcome.{first_moment, tasks_of_run, outcome}
 use Rattle.run_laws.specs.Lawful.{OnGoes}
-use Rattle.run_laws.specs.Versions.{state_versions, course_versions, end_versions, IsLast, HasMoments, StateHasMoments}
+use Rattle.run_laws.specs.Versions.{state_versions, course_versions, end_versions, IsLast, StateHasMoments}
 use Rattle.run_laws.proofs.StepClocks.{step_turned}
 use Rattle.run_laws.proofs.Steady.{IsAfter, task_steady, spawned_moment}
 use Rattle.run_laws.proofs.Past.{IsPastState, past_after, spawned_past}
@@ -34,19 +34,17 @@ module _ (v : ℕ → ℕ) (capacity : List ℕ → ℕ) where
   off_turned e (t ∷ ts) w =
       ap (λ (a : Answer). fold (switched_off capacity e) a.world ts) (operate_turned v capacity w (On e (SetEnabled t false))) ∙ off_turned e ts (switched_off capacity e w t)
 
-  all_off_turned : (types : List ℕ) (a : Answer) → all_off capacity types (answer_versions v a) ≡ world_versions v (all_off capacity types a)
-  all_off_turned types a = by a.reply
-    where
-      by : (r : Reply) → all_off capacity types (record (answer_versions v a) { reply = r }) ≡ world_versions v (all_off capacity types (record a { reply = r }))
-      by (Made e) = off_turned e types a.world
-      by Done = refl
-      by (Skipped cause) = refl
+  all_off_turned : (types : List ℕ) (w : World) (r : Reply)
+      → all_off capacity types (record { world = world_versions v w; reply = r }) ≡ world_versions v (all_off capacity types (record { world = w; reply = r }))
+  all_off_turned types w (Made e) = off_turned e types w
+  all_off_turned types w Done = refl
+  all_off_turned types w (Skipped cause) = refl
 
   rows_turned : (s : SpawnEntry) (ns : List ℕ) (w : World) → fold (after_row_spawned capacity s) (world_versions v w) ns ≡ world_versions v (fold (after_row_spawned capacity s) w ns)
   rows_turned s [] w = refl
   rows_turned s (n ∷ ns) w =
       ap (λ u. fold (after_row_spawned capacity s) u ns)
-      (ap (all_off capacity s.disabled) (operate_turned v capacity w (Create (spawn_parts w.registry s n))) ∙ all_off_turned s.disabled (operate capacity w (Create (spawn_parts w.registry s n))))
+      (ap (all_off capacity s.disabled) (operate_turned v capacity w (Create (spawn_parts w.registry s n))) ∙ all_off_turned s.disabled (operate capacity w (Create (spawn_parts w.registry s n))).world (operate capacity w (Create (spawn_parts w.registry s n))).reply)
       ∙ rows_turned s ns (after_row_spawned capacity s w n)
 
   spawns_turned : (ss : List SpawnEntry) (w : World) → fold (after_spawn capacity) (world_versions v w) ss ≡ world_versions v (fold (after_spawn capacity) w ss)
@@ -90,17 +88,19 @@ module _ (first : ℕ) (version : IsVersion first) (capacity : List ℕ → ℕ)
   tasks_turned [] st h few = refl
   tasks_turned (t ∷ ts) st h few =
       ap (course_after_all versions capacity trace ts) (step_turned first capacity trace st t version (state_moments st h (omega (arith, few))))
-      ∙ on (course_after (moments first) capacity trace st t) (task_steady capacity (moments first) trace st t) (past_after capacity first trace st t h)
+      ∙ on (course_after (moments first) capacity trace st t) (task_steady capacity (moments first) trace st t) (past_after capacity first trace st t h) (tasks_turned ts)
     where
-      stops : (us : List Task) (lines : _) → course_after_all versions capacity trace us (Stops lines) ≡ course_versions (version_of first) (course_after_all (moments first) capacity trace us (Stops lines))
+      stops : (us : List Task) (lines : List Line) → course_after_all versions capacity trace us (Stops lines) ≡ course_versions (version_of first) (course_after_all (moments first) capacity trace us (Stops lines))
       stops [] lines = refl
       stops (u ∷ us) lines = refl
 
       on : (course : Course) → IsAfter capacity (moments first) trace (record (st.world) { moment = st.world.moment + 1 }) course → OnGoes (IsPastState capacity) course
+          → ((u : State) → IsPastState capacity u → u.world.moment + length ts ≤ 26200001 → course_after_all versions capacity trace ts (Goes (state_versions (version_of first) u))
+          ≡ course_versions (version_of first) (course_after_all (moments first) capacity trace ts (Goes u)))
           → course_after_all versions capacity trace ts (course_versions (version_of first) course)
           ≡ course_versions (version_of first) (course_after_all (moments first) capacity trace ts course)
-      on (Goes u) k p = tasks_turned ts u p (let m = k.moment in omega (arith, m, few))
-      on (Stops lines) k p = stops ts lines
+      on (Goes u) k p rest = rest u p (let m = k.moment in omega (arith, m, few))
+      on (Stops lines) k p rest = stops ts lines
 
 end_turned : (v : ℕ → ℕ) (course : Course) → end_of (course_versions v course) ≡ end_versions v (end_of course)
 end_turned v (Goes st) = refl

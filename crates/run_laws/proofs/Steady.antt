@@ -75,7 +75,7 @@ module _ (capacity : List ℕ → ℕ) where
     task_steady st t =
         on (course_after clock capacity trace st t) (task_keeps capacity IsSteady same onward operate_steady moved_steady clock trace ran_steady st t.frame t.step)
       where
-        on : (course : Course) → OnGoes (IsDone capacity IsSteady same onward operate_steady moved_steady clock trace st t) course
+        on : (course : Course) → OnGoes (IsDone capacity IsSteady same onward operate_steady moved_steady clock trace st t.step) course
             → IsAfter (record (st.world) { moment = clock.next st.world.moment }) course
         on (Goes u) k = k.world
         on (Stops lines) k = tt

@@ -3,7 +3,6 @@
 use Rattle.std.proofs.Common.{◌≡◌, ℕ, ◌+◌, ◌≤◌, Bool, true, false, not, if◌then◌else◌, nat_eq, nat_le, List, [], ◌∷◌, ◌++◌, map, filter, fold, length, Option, Some, None, option_map, refl, sym, ap, ap₂, ◌∙◌, zero, suc, inl, inr, slice_get, slice_set}
 use Rattle.ent_types.specs.declared.entity.Entity.{Entity}
 use Rattle.ent_types.specs.declared.point.Point.{Point}
-use Rattle.ent_types.specs.declared.value.Value.{Value}
 use Rattle.ent_types.specs.Versions.{version_of, IsVersion}
 use Rattle.ent_types.proofs.VersionLemmas.{version_of-next}
 use Rattle.world_model.specs.Members.{In}

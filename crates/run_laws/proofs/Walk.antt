@@ -1,9 +1,8 @@
 -- What operations and scenes keep, tasks keep. `R` is any relation of the world before and after, which follows from one
 -- operation to the next.
-use Rattle.std.proofs.Common.{◌≡◌, ℕ, ◌+◌, Bool, true, false, not, if◌then◌else◌, nat_eq, nat_le, List, [], ◌∷◌, ◌++◌, length, map, filter, fold, Option, Some, None, refl, sym, ap, ◌∙◌, subst, slice_get, slice_set}
+use Rattle.std.proofs.Common.{◌≡◌, ℕ, ◌+◌, Bool, true, false, not, if◌then◌else◌, nat_eq, nat_le, List, [], ◌∷◌, ◌++◌, length, filter, fold, Option, Some, None, refl, ◌∙◌, slice_get, slice_set}
 use Rattle.std.specs.List.{range_with_len}
 use Rattle.ent_types.specs.declared.entity.Entity.{Entity}
-use Rattle.ent_types.specs.declared.point.Point.{Point}
 use Rattle.world_model.specs.World.{World}
 use Rattle.world_model.specs.Found.{alive_count}
 use Rattle.world_model.specs.Ids.{room}
@@ -17,7 +16,7 @@ use Rattle.run_model.specs.Run.{Entry, run}
 use Rattle.run_model.specs.Buffers.{SharedKey, shared_key, arranged}
 use Rattle.run_model.specs.Playback.{PlaybackState, made_for, operation_of, done_by, after_entry, after_entries, playback}
 use Rattle.run_model.specs.Loads.{SceneFile, Absent, TooLong, Faulty, Spelled, Load, LoadState, Requested, Arrived, Refused, Unloaded, SceneState, Arrival, refusal, scene_arrival, arrival_of, arrived, load_arrived, due_from, due_arrived, with_load, requested, tagged, destroyed, load_unloaded, load_named, unloaded_there, unloaded_at, unloaded}
-use Rattle.run_model.specs.Tasks.{after_row_spawned, after_spawn, spawn_parts, FrameEvent, Operates, Loads, Unloads, FrameStep, DoesEvents, Plays, Runs, Task}
+use Rattle.run_model.specs.Tasks.{after_row_spawned, after_spawn, spawn_parts, FrameEvent, Operates, Loads, Unloads, FrameStep, DoesEvents, Plays, Runs}
 use Rattle.run_model.specs.Frames.{Buffer, State, Course, Goes, Stops, with_lines, play_lines, scenes_changed, raised, event_done, events_done, after_buffer, unless_shared, after_buffers, after_point, waits_at, last_run, course_after}
 use Rattle.run_laws.specs.Lawful.{OnGoes}
 
@@ -50,20 +49,17 @@ module _ (capacity : List ℕ → ℕ) (R : World → World → Type 0) (same : 
       onward w (switched_off capacity e w t) (fold (switched_off capacity e) (switched_off capacity e w t) ts)
       (operated w (On e (SetEnabled t false))) (off_keeps e ts (switched_off capacity e w t))
 
-  all_off_keeps : (types : List ℕ) (a : Answer) → R a.world (all_off capacity types a)
-  all_off_keeps types a = by a.reply
-    where
-      by : (r : Reply) → R a.world (all_off capacity types (record a { reply = r }))
-      by (Made e) = off_keeps e types a.world
-      by Done = same a.world
-      by (Skipped cause) = same a.world
+  all_off_keeps : (types : List ℕ) (w : World) (r : Reply) → R w (all_off capacity types (record { world = w; reply = r }))
+  all_off_keeps types w (Made e) = off_keeps e types w
+  all_off_keeps types w Done = same w
+  all_off_keeps types w (Skipped cause) = same w
 
   rows_keep : (s : SpawnEntry) (ns : List ℕ) (w : World) → R w (fold (after_row_spawned capacity s) w ns)
   rows_keep s [] w = same w
   rows_keep s (n ∷ ns) w =
       let a : Answer = operate capacity w (Create (spawn_parts w.registry s n)) in
       onward w (after_row_spawned capacity s w n) (fold (after_row_spawned capacity s) (after_row_spawned capacity s w n) ns)
-      (onward w a.world (all_off capacity s.disabled a) (operated w (Create (spawn_parts w.registry s n))) (all_off_keeps s.disabled a))
+      (onward w a.world (all_off capacity s.disabled a) (operated w (Create (spawn_parts w.registry s n))) (all_off_keeps s.disabled a.world a.reply))
       (rows_keep s ns (after_row_spawned capacity s w n))
 
   pub spawns_keep : (ss : List SpawnEntry) (w : World) → R w (fold (after_spawn capacity) w ss)
@@ -139,7 +135,7 @@ module _ (capacity : List ℕ → ℕ) (R : World → World → Type 0) (same : 
 module _ (capacity : List ℕ → ℕ) (R : World → World → Type 0) (same : (w : World) → R w w) (onward : (w u v : World) → R w u → R u v → R w v)
     (operated : (w : World) (operation : Operation) → R w (operate capacity w operation).world) (moves : (w scene : World) → R w (moved w scene)) (clock : Clock) (trace : Bool) where
   -- the worlds of two states, the second of which has the last runs of the first
-  record Keeps (st u : State) : Type 0 where
+  pub record Keeps (st u : State) : Type 0 where
     pub world : R st.world u.world
     pub lasts : u.lasts ≡ st.lasts
 
@@ -189,22 +185,20 @@ module _ (capacity : List ℕ → ℕ) (R : World → World → Type 0) (same : 
       by None next h = on next h
       by (Some k) next h = tt
 
-  -- what a task leaves: from the world at the next moment to the one after it, and the last runs
-  abbrev pub LastsAfter : State → Task → List (Option ℕ) → Type 0
-  LastsAfter st t lasts = by t.step
-    where
-      by : FrameStep → Type 0
-      by (DoesEvents es) = lasts ≡ st.lasts
-      by (Plays point) = lasts ≡ st.lasts
-      by (Runs n s) = lasts ≡ slice_set st.lasts n (Some (clock.next st.world.moment))
+  -- what a task makes of the last runs
+  abbrev pub LastsAfter : State → FrameStep → List (Option ℕ) → Type 0
+  LastsAfter st (DoesEvents es) lasts = lasts ≡ st.lasts
+  LastsAfter st (Plays point) lasts = lasts ≡ st.lasts
+  LastsAfter st (Runs n s) lasts = lasts ≡ slice_set st.lasts n (Some (clock.next st.world.moment))
 
-  record IsDone (st : State) (t : Task) (u : State) : Type 0 where
+  -- what a task leaves of a world at the next moment, and of the last runs
+  pub record IsDone (st : State) (step : FrameStep) (u : State) : Type 0 where
     pub world : R (record (st.world) { moment = clock.next st.world.moment }) u.world
-    pub lasts : LastsAfter st t u.lasts
+    pub lasts : LastsAfter st step u.lasts
 
   module _ (ran : (s : SystemEntry) (last : Option ℕ) (frame : ℕ) (w : World) → R (record w { moment = clock.next w.moment }) (run clock s last frame w).world) where
     pub task_keeps : (st : State) (frame : ℕ) (step : FrameStep)
-        → OnGoes (IsDone st (record { frame = frame; step = step })) (course_after clock capacity trace st (record { frame = frame; step = step }))
+        → OnGoes (IsDone st step) (course_after clock capacity trace st (record { frame = frame; step = step }))
     unfolding course_after run
     task_keeps st frame (DoesEvents es) = let k = events_keep frame es (raised clock capacity trace st) in record { world = k.world; lasts = k.lasts }
     task_keeps st frame (Plays point) =
@@ -214,7 +208,7 @@ module _ (capacity : List ℕ → ℕ) (R : World → World → Type 0) (same : 
         before = with_lines (record (raised clock capacity trace st) { waiting = filter (λ b. not (waits_at point b)) st.waiting })
             (play_lines clock capacity trace frame point (raised clock capacity trace st).world (filter (waits_at point) st.waiting))
 
-        on : (course : Course) → KeptOn before course → OnGoes (IsDone st (record { frame = frame; step = Plays point })) course
+        on : (course : Course) → KeptOn before course → OnGoes (IsDone st (Plays point)) course
         on (Goes u) k = record { world = k.world; lasts = k.lasts }
         on (Stops lines) k = tt
     task_keeps st frame (Runs n s) = record { world = ran s (last_run clock capacity trace st.lasts n) frame st.world; lasts = refl }
