@@ -43,7 +43,7 @@ total (suc n) xs = tally n xs + total n xs
 
 total_nil : (k : ℕ) → total k [] ≡ 0
 total_nil zero = refl
-total_nil (suc k) = total_nil k
+total_nil (suc k) = let a = total_nil k in omega (arith, a)
 
 total_past : (k y : ℕ) (ys : List ℕ) → k ≤ y → total k (y ∷ ys) ≡ total k ys
 total_past zero y ys h = refl
@@ -177,7 +177,7 @@ module _ (s : Scenario) (ordered : IsOrdered s) where
       let c = zero_at 2 (omega arith) in
       omega (arith, sum, a, b, c)
     where
-      by : (root : ℕ) (b : Bool) → is_system_below children root n ≡ b → (if b then 1 else 0) ≡ 0
+      by : (root : ℕ) (b : Bool) → is_system_below children root n ≡ b → (let count : ℕ = if b then 1 else 0 in count) ≡ 0
       by root true e = absurd (none root (placed_is root n e))
       by root false e = refl
 

@@ -11,8 +11,8 @@ use Rattle.world_model.specs.Row.{Row}
 use Rattle.world_model.specs.World.{Home, Mark, Block, World, empty_world}
 use Rattle.world_model.specs.Found.{Found, found}
 use Rattle.world_model.specs.Enter.{marks_at, has_room, entered, enter}
-use Rattle.world_model.specs.Leave.{has_entity, without_row, no_rows, left, leave}
-use Rattle.world_model.specs.Write.{replaced, marked, rewritten, rewrite}
+use Rattle.world_model.specs.Leave.{has_entity, replaced, without_row, no_rows, left, leave}
+use Rattle.world_model.specs.Write.{marked, rewritten, rewrite}
 use Rattle.world_model.specs.Lawful.{IsPast}
 use Rattle.world_model.specs.Operations.{Act, Operation, Create, On, Outcome, Skips, Keeps, Writes, Moves, Ends, Makes, sight, decide, decide_create, apply, acted, operate}
 use Rattle.world_model.specs.Scenes.{arrivals, value_renamed, block_moved, moved}
@@ -32,14 +32,14 @@ use Rattle.run_laws.proofs.Steady.{IsAfter, task_steady}
 
 -- ---- blocks
 
-abbrev ArePastMarks : ℕ → List Mark → Type 0
+abbrev pub ArePastMarks : ℕ → List Mark → Type 0
 ArePastMarks now ms = (m : Mark) → In m ms → IsPast now m.moment
 
-record IsPastBlock (now : ℕ) (b : Block) : Type 0 where
+pub record IsPastBlock (now : ℕ) (b : Block) : Type 0 where
   pub marks : ArePastMarks now b.marks
   pub order : IsPast now b.order
 
-abbrev AreAllPast : ℕ → List Block → Type 0
+abbrev pub AreAllPast : ℕ → List Block → Type 0
 AreAllPast now bs = (b : Block) → In b bs → IsPastBlock now b
 
 -- a world whose marks are past
@@ -113,7 +113,7 @@ module _ (now : ℕ) (some : 1 ≤ now) where
 
 -- ---- worlds
 
-abbrev Keep : World → World → Type 0
+abbrev pub Keep : World → World → Type 0
 Keep w u = ArePast w → ArePast u
 
 same : (w : World) → Keep w w

@@ -133,7 +133,7 @@ the_spawns_are_at_the_first_moment : outcome false no_files (record (scenario []
       first_entity_version = 7;
       moment = 1;
     })
-unfolding outcome end_of_run spawned operate enter steps_of
+unfolding outcome end_of_run spawned operate enter capacity_of greatest_up_to column_size steps_of
 the_spawns_are_at_the_first_moment = refl
 
 -- the events have moment 2, the three points before the systems moments 3 to 5, and so the system has moment 6
