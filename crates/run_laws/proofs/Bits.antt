@@ -39,7 +39,7 @@ unfolding is_lawful_type
 enableable_is_own registry lawful t h =
     elim (cases_lt t (length registry)) [
       | inl within ↦ own_kind (type_at registry t).kind
-      (may_be (type_at registry t).enableable (may_be_enableable (type_at registry t).kind) (and_parts _ _ (and_parts _ _ (is_lawful_type-at registry lawful t within)).1).0 h)
+          (may_be (type_at registry t).enableable (may_be_enableable (type_at registry t).kind) (and_parts _ _ (and_parts _ _ (is_lawful_type-at registry lawful t within)).1).0 h)
       | inr past ↦ absurd (false≢true (sym (ap (λ (u : TypeInfo). u.enableable) (get_or_past registry t (plain_tag []) past)) ∙ h))
     ]
 

@@ -11,16 +11,13 @@ pub mod StepClocks
 pub mod Agree
 pub mod RunAgree
 pub mod Phases
-pub mod Accesses
 pub mod Grouping
 pub mod PhaseStep
 pub mod Walk
 pub mod Steady
 pub mod FrameFold
 pub mod RootPhases
-pub mod Planned
 pub mod Moments
-pub mod Forest
 pub mod Past
 pub mod RunVersions
 pub mod Examples

@@ -82,13 +82,13 @@ distinct_less : (first : ℕ) (xs : List ℕ) → ((n : ℕ) → tally n xs ≤ 
 distinct_less first [] once above = tt
 distinct_less first (x ∷ xs) once above = (
   (λ i. let (y, j, e) = in_map (λ z. z - first) (x - first) xs i in
-  let low = above x (inl refl) in
-  let high = above y (inr j) in
-  let is : y ≡ x = omega (arith, e, low, high) in
-  let two = in_tally x xs (subst (λ z. In z xs) is j) in
-  let one = once x in
-  let own = same_yes x x refl in
-  absurd (omega (arith, two, one, own))),
+      let low = above x (inl refl) in
+      let high = above y (inr j) in
+      let is : y ≡ x = omega (arith, e, low, high) in
+      let two = in_tally x xs (subst (λ z. In z xs) is j) in
+      let one = once x in
+      let own = same_yes x x refl in
+      absurd (omega (arith, two, one, own))),
   distinct_less first xs (λ n. let a = once n in omega (arith, a)) (λ n i. above n (inr i)),
 )
 

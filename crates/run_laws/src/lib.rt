@@ -19,9 +19,6 @@ ghost use Rattle.expr_eval.specs.Values.{OtherRows};
 ghost use Rattle.scenario_record.specs.declared.plan.Step.{Step};
 ghost use Rattle.scenario_record.specs.declared.record.Scenario.{Scenario};
 ghost use Rattle.scenario_record.specs.declared.record.SystemEntry.{SystemEntry};
-ghost use Rattle.scenario_check.specs.Checks.{first_fault};
-ghost use Rattle.scenario_check.specs.Planned.{steps_of as steps_in_simulation};
-ghost use Rattle.scenario_check.specs.Touched.{access_of};
 ghost use Rattle.system_order.specs.Roots.{IsForest};
 ghost use Rattle.run_model.specs.Clock.{Clock, moments, versions};
 ghost use Rattle.run_model.specs.Query.{matches, passes, visits};
@@ -130,12 +127,6 @@ pub fn phases_are_the_fold_of_their_systems()
         → (world_each clock frame js w ≡ joined clock frame js w) × (outputs_each clock frame js w ≡ joined_outputs clock frame w w.moment js) }
 {}
 
-/// Two systems conflict if and only if what their plan says of them conflicts.
-pub fn plans_say_what_conflicts()
-    ensures { (registry : List TypeInfo) (s r : SystemEntry) → ((t : ℕ) → In t (writes s) → t < MOST_TYPES) → ((t : ℕ) → In t (writes r) → t < MOST_TYPES)
-        → accesses_conflict (access_of registry s) (access_of registry r) ≡ conflicts registry s r }
-{}
-
 /// No two systems of a phase conflict, and the phases in order hold all systems in order.
 pub fn phases_hold_all_systems_apart()
     ensures apart { (registry : List TypeInfo) (last : SystemEntry → Option ℕ) (ss q : List SystemEntry) → In q (phases registry ss)
@@ -149,17 +140,6 @@ pub fn phases_are_steps_of_a_run()
     ensures { (clock : Clock) (capacity : List ℕ → ℕ) (trace : Bool) (frame : ℕ) (ss : List Numbered) → AreDistinct (map number_of ss) → (st : State)
         → AreApart st.world.registry (turns_of clock capacity trace st ss)
         → course_after_all clock capacity trace (tasks_of_phase frame ss) (Goes st) ≡ Goes (after_phase clock capacity trace frame ss st) }
-{}
-
-/// If no key places a system, the steps of a frame are those of today's plans: all systems in declared order, as those of
-/// Simulation.
-pub fn unplaced_systems_run_in_declared_order()
-    ensures { (s : Scenario) → AreUnplaced s → steps_of s ≡ steps_in_simulation (length s.system) }
-{}
-
-/// In a scenario that passes its checks, the parent of each group is a root or an earlier group.
-pub fn checked_groups_are_a_forest()
-    ensures { (s : Scenario) → first_fault s ≡ None → IsForest (children_of s) }
 {}
 
 /// The steps of a frame have no system twice.
