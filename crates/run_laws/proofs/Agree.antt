@@ -1,5 +1,5 @@
 -- A text sees no types but those that it names: where the rows and the lookups agree on these, it gives the same values.
-use Rattle.std.proofs.Common.{◌≡◌, ℕ, ℤ, pos, ◌+◌, ◌%◌, inl, nat_eq, Bool, true, false, not, ◌&&◌, ◌||◌, if◌then◌else◌, List, [], ◌∷◌, ◌++◌, length, map, Option, Some, option_map, refl, sym, ap, ap₂, ◌∙◌, subst, eqb-true, unwrap_or, slice_get, slice_set}
+use Rattle.std.proofs.Common.{◌≡◌, ℕ, ℤ, pos, ◌+◌, ◌%◌, inl, inr, nat_eq, Bool, true, false, not, ◌&&◌, ◌||◌, if◌then◌else◌, List, [], ◌∷◌, ◌++◌, length, map, Option, Some, option_map, refl, sym, ap, ap₂, ◌∙◌, subst, eqb-true, unwrap_or, slice_get, slice_set}
 use Rattle.std.specs.Prelude.{option_and_then}
 use Rattle.std.specs.Option.{option_or}
 use Rattle.std.specs.Int.{int_wrap, w32}
@@ -33,50 +33,39 @@ use Rattle.expr_trees.specs.declared.tree.PartExpr.{PartExpr}
 use Rattle.expr_trees.specs.declared.tree.CommandText.{CommandText}
 use Rattle.expr_trees.specs.declared.tree.CommandText.TheVariants as texts
 use Rattle.scenario_record.specs.declared.record.CommandEntry.{CommandEntry}
+use Rattle.scenario_record.specs.Uses.{Use, own_number, own_ref, looked_up, has_type as tested_type, on_type, in_ref, expr_step, in_expr, in_value, in_part, in_act, in_command}
+use Rattle.world_model.specs.Members.{In}
 use Rattle.run_model.specs.Query.{is_off}
 use Rattle.run_model.specs.Job.{Spot, own_of, fitted, Text, Assigns, Switches, after_text, after_texts}
-use Rattle.run_model.specs.Touched.{own_in_ref, own_step, own_in, looked_step, looked_in, in_value, in_part, in_act, in_command}
+use Rattle.run_model.specs.Touched.{read_types}
 use Rattle.run_model.specs.Commands.{Live, GivenValue, Known, Creates, ActsOn, Recorded, target_of, given_ref, given_of, givens_from, part_given, change_of, placeholders_in, is_recorded, recorded_as, recorded_from}
 use Rattle.run_laws.specs.Agree.{CellAgree, CellsAgree, OthersAgree}
-use Rattle.run_laws.proofs.Lists.{both_map, Within, within_left, within_right}
+use Rattle.run_laws.proofs.Lists.{both_map, in_left, in_right, Within, within_left, within_right}
 
-abbrev no_ref : RefExpr → List ℕ
-no_ref r = []
-
--- the own types and the types looked up that a text names
-abbrev pub own_value : ValueExpr → List ℕ
-own_value v = in_value own_in own_in_ref v
-
-abbrev pub looked_value : ValueExpr → List ℕ
-looked_value v = in_value looked_in no_ref v
-
-abbrev pub own_text : Text → List ℕ
-own_text (Assigns a) = own_value a.value
-own_text (Switches w) = own_in w.value
-
-abbrev pub looked_text : Text → List ℕ
-looked_text (Assigns a) = looked_value a.value
-looked_text (Switches w) = looked_in w.value
-
-abbrev pub own_command : CommandEntry → List ℕ
-own_command c = in_command own_in own_in_ref c
-
-abbrev pub looked_command : CommandEntry → List ℕ
-looked_command c = in_command looked_in no_ref c
+-- what a text names
+abbrev pub text_uses : Text → List Use
+text_uses (Assigns a) = in_value a.value
+text_uses (Switches w) = in_expr w.value
 
 module _ (X : ℕ → Type 0) where
-  abbrev pub Sees : List ℕ → List ℕ → Type 0
-  Sees own looked = Within own X × Within looked X
+  -- the types that these uses read
+  abbrev pub Sees : List Use → Type 0
+  Sees us = (u : Use) → In u us → Within (read_types u) X
 
-  pub sees_left : (a b c d : List ℕ) → Sees (a ++ b) (c ++ d) → Sees a c
-  sees_left a b c d h = (within_left a b X h.0, within_left c d X h.1)
+  pub sees_left : (us vs : List Use) → Sees (us ++ vs) → Sees us
+  sees_left us vs h u i = h u (in_left u us vs i)
 
-  pub sees_right : (a b c d : List ℕ) → Sees (a ++ b) (c ++ d) → Sees b d
-  sees_right a b c d h = (within_right a b X h.0, within_right c d X h.1)
+  pub sees_right : (us vs : List Use) → Sees (us ++ vs) → Sees vs
+  sees_right us vs h u i = h u (in_right u us vs i)
+
+  pub seen : (us : List Use) → Within (flat_map read_types us) X → Sees us
+  seen [] h u i = absurd i
+  seen (v ∷ us) h u (inl e) = subst (λ (w : Use). Within (read_types w) X) (sym e) (within_left (read_types v) (flat_map read_types us) X h)
+  seen (v ∷ us) h u (inr i) = seen us (within_right (read_types v) (flat_map read_types us) X h) u i
 
   abbrev pub AllSeen : List Text → Type 0
   AllSeen [] = Unit {0}
-  AllSeen (t ∷ ts) = Sees (own_text t) (looked_text t) × AllSeen ts
+  AllSeen (t ∷ ts) = Sees (text_uses t) × AllSeen ts
 
   pub cell_same : (t : ℕ) → X t → (cs ds : List Cell) → CellsAgree X cs ds → cell_at t cs ≡ cell_at t ds
   cell_same t x [] [] h = refl
@@ -120,11 +109,11 @@ module _ (X : ℕ → Type 0) where
             ap (λ (k : Option Cell). unwrap_or (option_and_then (λ vs. slice_get vs i) (option_or (option_map (λ c. c.values) k) (part_at ty.0 home.shared))) (Int (pos 0)))
             (cell_same ty.0 x cs ds agree)
 
-        ref_agree : (r : RefExpr) → Within (own_in_ref r) X → value_ref (own cs) r ≡ value_ref (own ds) r
+        ref_agree : (r : RefExpr) → Sees (in_ref r) → value_ref (own cs) r ≡ value_ref (own ds) r
         ref_agree refs.Null w = refl
         ref_agree refs.Me w = refl
         ref_agree (refs.Made k) w = refl
-        ref_agree (refs.Own ty i) w = ap entity (field_same ty i (w ty.0 (inl refl)))
+        ref_agree (refs.Own ty i) w = ap entity (field_same ty i (w (own_ref ty.0 i) (inl refl) ty.0 (inl refl)))
         ref_agree (refs.Entity e) w = refl
 
         variable_agree : (v : Variable) → value_variable (own cs) v ≡ value_variable (own ds) v
@@ -138,56 +127,51 @@ module _ (X : ℕ → Type 0) where
         -- ---- expressions
 
         abbrev IsSame : Expr → Type 0
-        IsSame e = Sees (own_in e) (looked_in e) → value (own cs) o e ≡ value (own ds) p e
+        IsSame e = Sees (in_expr e) → value (own cs) o e ≡ value (own ds) p e
 
         rolled : (x : Expr-F Expr)
-            → (Sees (own_step (map-Expr Expr (List ℕ) own_in x)) (looked_step (map-Expr Expr (List ℕ) looked_in x))
+            → (Sees (expr_step (map-Expr Expr (List Use) in_expr x))
             → value_step (own cs) o (map-Expr Expr ℤ (value (own cs) o) x) ≡ value_step (own ds) p (map-Expr Expr ℤ (value (own ds) p) x))
             → IsSame (roll-Expr x)
         rolled x h w =
             fold-roll-Expr ℤ (value_step (own cs) o) x
-            ∙ (h (
-              subst (λ ts. Within ts X) (fold-roll-Expr (List ℕ) own_step x) w.0,
-              subst (λ ts. Within ts X) (fold-roll-Expr (List ℕ) looked_step x) w.1,
-            )
+            ∙ (h (subst Sees (fold-roll-Expr (List Use) expr_step x) w)
             ∙ sym (fold-roll-Expr ℤ (value_step (own ds) p) x))
 
         layer : (y : Expr-F ((e : Expr) × IsSame e)) → IsSame (roll-Expr (map-Expr ((e : Expr) × IsSame e) Expr (λ e. e.0) y))
         layer (Expr-F.Number z) = rolled (Expr-F.Number z) (λ w. refl)
         layer (Expr-F.Variable v) = rolled (Expr-F.Variable v) (λ w. variable_agree v)
-        layer (Expr-F.Own ty i) = rolled (Expr-F.Own ty i) (λ w. ap number (field_same ty i (w.0 ty.0 (inl refl))))
+        layer (Expr-F.Own ty i) = rolled (Expr-F.Own ty i) (λ w. ap number (field_same ty i (w (own_number ty.0 i) (inl refl) ty.0 (inl refl))))
         layer (Expr-F.Unary op a) = rolled (Expr-F.Unary op a.0) (λ w. ap (value_unary op) (a.1 w))
         layer (Expr-F.Binary op a b) = rolled (Expr-F.Binary op a.0 b.0)
-            (λ w. ap₂ (value_binary op) (a.1 (sees_left (own_in a.0) (own_in b.0) (looked_in a.0) (looked_in b.0) w))
-            (b.1 (sees_right (own_in a.0) (own_in b.0) (looked_in a.0) (looked_in b.0) w)))
+            (λ w. ap₂ (value_binary op) (a.1 (sees_left (in_expr a.0) (in_expr b.0) w)) (b.1 (sees_right (in_expr a.0) (in_expr b.0) w)))
         layer (Expr-F.Pick c a b) = rolled (Expr-F.Pick c.0 a.0 b.0)
-            (λ w. let rest = sees_right (own_in c.0) (own_in a.0 ++ own_in b.0) (looked_in c.0) (looked_in a.0 ++ looked_in b.0) w in
+            (λ w. let rest = sees_right (in_expr c.0) (in_expr a.0 ++ in_expr b.0) w in
             ap₂ (λ (u : Bool) (v : ℤ × ℤ). if u then v.0 else v.1)
-            (ap is_true (c.1 (sees_left (own_in c.0) (own_in a.0 ++ own_in b.0) (looked_in c.0) (looked_in a.0 ++ looked_in b.0) w)))
-            (ap₂ (λ y z. (y, z)) (a.1 (sees_left (own_in a.0) (own_in b.0) (looked_in a.0) (looked_in b.0) rest))
-            (b.1 (sees_right (own_in a.0) (own_in b.0) (looked_in a.0) (looked_in b.0) rest))))
+            (ap is_true (c.1 (sees_left (in_expr c.0) (in_expr a.0 ++ in_expr b.0) w)))
+            (ap₂ (λ y z. (y, z)) (a.1 (sees_left (in_expr a.0) (in_expr b.0) rest)) (b.1 (sees_right (in_expr a.0) (in_expr b.0) rest))))
         layer (Expr-F.Get r ty i) = rolled (Expr-F.Get r ty i)
-            (λ w. ap (λ d. number_or_zero (o.value d ty i)) (ref_agree r w.0) ∙ ap number_or_zero (others.value (value_ref (own ds) r) ty i (w.1 ty.0 (inl refl))))
+            (λ w. ap (λ d. number_or_zero (o.value d ty i)) (ref_agree r (sees_left (in_ref r) (looked_up ty.0 i ∷ []) w))
+            ∙ ap number_or_zero (others.value (value_ref (own ds) r) ty i (sees_right (in_ref r) (looked_up ty.0 i ∷ []) w (looked_up ty.0 i) (inl refl) ty.0 (inl refl))))
         layer (Expr-F.Alive r) = rolled (Expr-F.Alive r)
-            (λ w. ap (λ d. truth (o.alive d)) (ref_agree r w.0) ∙ ap truth (others.alive (value_ref (own ds) r)))
+            (λ w. ap (λ d. truth (o.alive d)) (ref_agree r w) ∙ ap truth (others.alive (value_ref (own ds) r)))
         layer (Expr-F.Has r ty) = rolled (Expr-F.Has r ty)
-            (λ w. ap (λ d. truth (o.has d ty)) (ref_agree r w.0) ∙ ap truth (others.has (value_ref (own ds) r) ty))
+            (λ w. ap (λ d. truth (o.has d ty)) (ref_agree r (sees_left (in_ref r) (tested_type ty.0 ∷ []) w)) ∙ ap truth (others.has (value_ref (own ds) r) ty))
         layer (Expr-F.Same r q) = rolled (Expr-F.Same r q)
-            (λ w. ap₂ (λ d e. truth (same_entity d e)) (ref_agree r (within_left (own_in_ref r) (own_in_ref q) X w.0))
-            (ref_agree q (within_right (own_in_ref r) (own_in_ref q) X w.0)))
+            (λ w. ap₂ (λ d e. truth (same_entity d e)) (ref_agree r (sees_left (in_ref r) (in_ref q) w)) (ref_agree q (sees_right (in_ref r) (in_ref q) w)))
         layer (Expr-F.On ty) = rolled (Expr-F.On ty)
-            (λ w. ap (λ b. truth (has_type home.types ty.0 && not b)) (off_same ty.0 (λ e. w.0 ty.0 (inl refl)) cs ds agree))
+            (λ w. ap (λ b. truth (has_type home.types ty.0 && not b)) (off_same ty.0 (λ e. w (on_type ty.0) (inl refl) ty.0 (inl refl)) cs ds agree))
 
         pub value_agree : (e : Expr) → IsSame e
         value_agree = ind-Expr IsSame (λ x y is. subst (λ (z : Expr-F Expr). IsSame (roll-Expr z)) is (layer y))
 
         -- ---- texts that write
 
-        pub fitted_agree : (kind : FieldKind) (v : ValueExpr) → Sees (own_value v) (looked_value v) → fitted kind (own cs) o v ≡ fitted kind (own ds) p v
+        pub fitted_agree : (kind : FieldKind) (v : ValueExpr) → Sees (in_value v) → fitted kind (own cs) o v ≡ fitted kind (own ds) p v
         fitted_agree kind (values.Int e) w = ap (λ z. fit kind (Int z)) (value_agree e w)
-        fitted_agree kind (values.Ref r) w = ap (λ d. fit kind (Ref d)) (ref_agree r w.0)
+        fitted_agree kind (values.Ref r) w = ap (λ d. fit kind (Ref d)) (ref_agree r w)
 
-        text_agree : (t : Text) → Sees (own_text t) (looked_text t) → CellsAgree X (after_text registry o (own cs) t cs) (after_text registry p (own ds) t ds)
+        text_agree : (t : Text) → Sees (text_uses t) → CellsAgree X (after_text registry o (own cs) t cs) (after_text registry p (own ds) t ds)
         text_agree (Assigns a) w =
             subst (λ v. CellsAgree X (after_text registry o (own cs) (Assigns a) cs) (with_values a.ty.0 (λ vs. slice_set vs a.field v) ds))
             (fitted_agree (field_kind_at registry a.ty.0 a.field) a.value w)
@@ -204,78 +188,70 @@ module _ (X : ℕ → Type 0) where
 
         -- ---- commands
 
-        target_agree : (r : RefExpr) → Within (own_in_ref r) X → target_of (own cs) r ≡ target_of (own ds) r
+        target_agree : (r : RefExpr) → Sees (in_ref r) → target_of (own cs) r ≡ target_of (own ds) r
         target_agree refs.Null w = refl
         target_agree refs.Me w = refl
         target_agree (refs.Made k) w = refl
         target_agree (refs.Own ty i) w = ap Live (ref_agree (refs.Own ty i) w)
         target_agree (refs.Entity e) w = refl
 
-        given_agree : (kind : FieldKind) (v : ValueExpr) → Sees (own_value v) (looked_value v) → given_of (own cs) o kind v ≡ given_of (own ds) p kind v
+        given_agree : (kind : FieldKind) (v : ValueExpr) → Sees (in_value v) → given_of (own cs) o kind v ≡ given_of (own ds) p kind v
         given_agree kind (values.Int e) w = ap (λ z. Known (fit kind (Int z))) (value_agree e w)
-        given_agree kind (values.Ref r) w = ap (given_ref kind) (target_agree r w.0)
+        given_agree kind (values.Ref r) w = ap (given_ref kind) (target_agree r w)
 
-        givens_agree : (t k : ℕ) (vs : List ValueExpr) → Sees (flat_map own_value vs) (flat_map looked_value vs)
+        givens_agree : (t k : ℕ) (vs : List ValueExpr) → Sees (flat_map in_value vs)
             → givens_from registry (own cs) o t k vs ≡ givens_from registry (own ds) p t k vs
         givens_agree t k [] w = refl
         givens_agree t k (v ∷ vs) w =
             ap₂ (λ (g : GivenValue) gs. g ∷ gs)
             (given_agree (field_kind_at registry t (k % length (fields_at registry t))) v
-            (sees_left (own_value v) (flat_map own_value vs) (looked_value v) (flat_map looked_value vs) w))
-            (givens_agree t (k + 1) vs (sees_right (own_value v) (flat_map own_value vs) (looked_value v) (flat_map looked_value vs) w))
+            (sees_left (in_value v) (flat_map in_value vs) w))
+            (givens_agree t (k + 1) vs (sees_right (in_value v) (flat_map in_value vs) w))
 
-        abbrev own_part : PartExpr → List ℕ
-        own_part q = in_part own_in own_in_ref q
-
-        abbrev looked_part : PartExpr → List ℕ
-        looked_part q = in_part looked_in no_ref q
-
-        part_agree : (q : PartExpr) → Sees (own_part q) (looked_part q) → part_given registry (own cs) o q ≡ part_given registry (own ds) p q
+        part_agree : (q : PartExpr) → Sees (in_part q) → part_given registry (own cs) o q ≡ part_given registry (own ds) p q
         part_agree q w = ap (λ gs. let r : PartOf GivenValue = record { type_id = q.ty.0; values = gs } in r) (givens_agree q.ty.0 0 q.values w)
 
-        parts_agree : (qs : List PartExpr) → Sees (flat_map own_part qs) (flat_map looked_part qs)
+        parts_agree : (qs : List PartExpr) → Sees (flat_map in_part qs)
             → map (part_given registry (own cs) o) qs ≡ map (part_given registry (own ds) p) qs
         parts_agree [] w = refl
         parts_agree (q ∷ qs) w =
-            ap₂ (λ (r : PartOf GivenValue) rs. r ∷ rs) (part_agree q (sees_left (own_part q) (flat_map own_part qs) (looked_part q) (flat_map looked_part qs) w))
-            (parts_agree qs (sees_right (own_part q) (flat_map own_part qs) (looked_part q) (flat_map looked_part qs) w))
+            ap₂ (λ (r : PartOf GivenValue) rs. r ∷ rs) (part_agree q (sees_left (in_part q) (flat_map in_part qs) w))
+            (parts_agree qs (sees_right (in_part q) (flat_map in_part qs) w))
 
-        on_part : (f : PartOf GivenValue → Act GivenValue) (r : RefExpr) (q : PartExpr) → Sees (own_in_ref r ++ own_part q) (looked_part q)
+        on_part : (f : PartOf GivenValue → Act GivenValue) (r : RefExpr) (q : PartExpr) → Sees (in_ref r ++ in_part q)
             → ActsOn (target_of (own cs) r) (f (part_given registry (own cs) o q)) ≡ ActsOn (target_of (own ds) r) (f (part_given registry (own ds) p q))
         on_part f r q w =
-            ap₂ (λ t g. ActsOn t (f g)) (target_agree r (within_left (own_in_ref r) (own_part q) X w.0))
-            (part_agree q (within_right (own_in_ref r) (own_part q) X w.0, w.1))
+            ap₂ (λ t g. ActsOn t (f g)) (target_agree r (sees_left (in_ref r) (in_part q) w))
+            (part_agree q (sees_right (in_ref r) (in_part q) w))
 
-        deed_agree : (a : CommandText) → Sees (in_act own_in own_in_ref a) (in_act looked_in no_ref a)
+        deed_agree : (a : CommandText) → Sees (in_act a)
             → change_of registry (own cs) o a ≡ change_of registry (own ds) p a
         deed_agree (texts.Create name qs) w = ap Creates (parts_agree qs w)
-        deed_agree (texts.Destroy r) w = ap (λ t. ActsOn t Destroy) (target_agree r w.0)
+        deed_agree (texts.Destroy r) w = ap (λ t. ActsOn t Destroy) (target_agree r w)
         deed_agree (texts.Add r q) w = on_part Add r q w
         deed_agree (texts.Set r q) w = on_part Set r q w
         deed_agree (texts.SetShared r q) w = on_part SetShared r q w
-        deed_agree (texts.Remove r ty) w = ap (λ t. ActsOn t (Remove ty.0)) (target_agree r w.0)
-        deed_agree (texts.Enable r ty) w = ap (λ t. ActsOn t (SetEnabled ty.0 true)) (target_agree r w.0)
-        deed_agree (texts.Disable r ty) w = ap (λ t. ActsOn t (SetEnabled ty.0 false)) (target_agree r w.0)
-        deed_agree (texts.Instantiate name r) w = ap (λ t. ActsOn t Instantiate) (target_agree r w.0)
+        deed_agree (texts.Remove r ty) w = ap (λ t. ActsOn t (Remove ty.0)) (target_agree r w)
+        deed_agree (texts.Enable r ty) w = ap (λ t. ActsOn t (SetEnabled ty.0 true)) (target_agree r w)
+        deed_agree (texts.Disable r ty) w = ap (λ t. ActsOn t (SetEnabled ty.0 false)) (target_agree r w)
+        deed_agree (texts.Instantiate name r) w = ap (λ t. ActsOn t Instantiate) (target_agree r w)
 
-        pub said_agree : (ks : List CommandEntry) → Sees (flat_map own_command ks) (flat_map looked_command ks) → (n : ℕ) (recorded : List ℕ)
+        pub said_agree : (ks : List CommandEntry) → Sees (flat_map in_command ks) → (n : ℕ) (recorded : List ℕ)
             → recorded_from registry (own cs) o n recorded ks ≡ recorded_from registry (own ds) p n recorded ks
         said_agree [] w n recorded = refl
         said_agree (c ∷ ks) w n recorded =
-            let here = sees_left (own_command c) (flat_map own_command ks) (looked_command c) (flat_map looked_command ks) w in
-            let own_key = own_in c.key ++ in_act own_in own_in_ref c.act in
-            let looked_key = looked_in c.key ++ in_act looked_in no_ref c.act in
-            let late = sees_right (own_in c.when) own_key (looked_in c.when) looked_key here in
+            let here = sees_left (in_command c) (flat_map in_command ks) w in
+            let late = sees_right (in_expr c.when) (in_expr c.key ++ in_act c.act) here in
             let test : is_recorded registry (own cs) o recorded c ≡ is_recorded registry (own ds) p recorded c =
             ap (λ z. is_true z && list_all (has_type recorded) (placeholders_in c.act))
-            (value_agree c.when (sees_left (own_in c.when) own_key (looked_in c.when) looked_key here)) in
+            (value_agree c.when (sees_left (in_expr c.when) (in_expr c.key ++ in_act c.act) here)) in
             let command : recorded_as registry (own cs) o n c ≡ recorded_as registry (own ds) p n c =
             ap₂ (λ z d. let x : Recorded = record { key = int_wrap w32 z; point = c.buffer; number = n; change = d } in x)
-            (value_agree c.key (sees_left (own_in c.key) (in_act own_in own_in_ref c.act) (looked_in c.key) (in_act looked_in no_ref c.act) late))
-            (deed_agree c.act (sees_right (own_in c.key) (in_act own_in own_in_ref c.act) (looked_in c.key) (in_act looked_in no_ref c.act) late)) in
+            (value_agree c.key (sees_left (in_expr c.key) (in_act c.act) late))
+            (deed_agree c.act (sees_right (in_expr c.key) (in_act c.act) late)) in
             ap₂ (λ us vs. us ++ vs) (ap₂ (λ b (x : Recorded). if b then x ∷ [] else []) test command)
             (ap (λ b. recorded_from registry (own cs) o (n + 1) (if b then n ∷ recorded else recorded) ks) test
-            ∙ said_agree ks (sees_right (own_command c) (flat_map own_command ks) (looked_command c) (flat_map looked_command ks) w) (n + 1)
+            ∙ said_agree ks (sees_right (in_command c) (flat_map in_command ks) w) (n + 1)
             (if is_recorded registry (own ds) p recorded c then n ∷ recorded else recorded))
 
       pub texts_agree : (ts : List Text) → AllSeen ts → (cs ds : List Cell) → CellsAgree X cs ds

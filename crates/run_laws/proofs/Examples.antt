@@ -47,7 +47,7 @@ use Rattle.run_model.specs.Phases.{conflicts, phases}
 
 -- ---- types: 0 Disabled, 1 Prefab, 2 SceneTag, 3 P(v:i32), 4 the enableable tag Act, 5 Link(to:ref), 6 the shared Team(id:i64)
 
-abbrev registry : List TypeInfo
+abbrev pub registry : List TypeInfo
 registry =
     record { name = []; kind = Tag; fields = []; enableable = false }
     ∷ record { name = []; kind = Tag; fields = []; enableable = false }
@@ -59,7 +59,7 @@ registry =
     ∷ []
 
 -- a system with these lists of types
-abbrev asks : List ℕ → List ℕ → List ℕ → List ℕ → List ℕ → SystemEntry
+abbrev pub asks : List ℕ → List ℕ → List ℕ → List ℕ → List ℕ → SystemEntry
 asks all any none disabled absent = record {
   name = [];
   group = [];
@@ -225,7 +225,7 @@ links = record {
   moment = 4;
 }
 
-abbrev points_home : SystemEntry
+abbrev pub points_home : SystemEntry
 points_home = record (asks (4 ∷ 5 ∷ []) [] [] [] []) {
   set = (let a : Assign = record { ty = record { 0 = 5 }; field = 0; value = values.Ref refs.Me } in a) ∷ [];
 }

@@ -1,5 +1,6 @@
 pub mod Lists
 pub mod Matches
+pub mod Bits
 pub mod Visits
 pub mod Sorts
 pub mod Arrange
@@ -12,7 +13,15 @@ pub mod RunAgree
 pub mod Phases
 pub mod Grouping
 pub mod PhaseStep
+pub mod Walk
+pub mod Steady
+pub mod FrameFold
+pub mod RootPhases
+pub mod Moments
+pub mod Past
+pub mod RunVersions
 pub mod Examples
+pub mod RunExamples
 pub mod RunLawful
 pub mod PlayLawful
 pub mod EntriesSuit

@@ -4,8 +4,8 @@ use Rattle.world_model.specs.Members.{In, AreDistinct}
 use Rattle.run_model.specs.Clock.{Clock}
 use Rattle.run_model.specs.Run.{RunResult, run}
 use Rattle.run_model.specs.Frames.{State, Goes, with_world, last_run, after_system, course_after, course_after_all}
-use Rattle.run_model.specs.Phases.{Turn, AreApart, world_each, outputs_each}
-use Rattle.run_model.specs.PhaseSteps.{Numbered, number_of, tasks_of_phase, turns_of, with_outputs, after_phase}
+use Rattle.run_model.specs.Phases.{Turn, AreApart, RunOutput, world_each, outputs_each, joined, joined_outputs}
+use Rattle.run_model.specs.PhaseSteps.{Numbered, number_of, tasks_of_phase, turns_of, with_output, with_outputs, after_phase}
 use Rattle.run_laws.proofs.Phases.{phase_law, all_free}
 
 -- another place of a list is as before
@@ -40,6 +40,18 @@ module _ (clock : Clock) (capacity : List ℕ → ℕ) (trace : Bool) (frame : �
     where
       next : RunResult
       next = run clock s.system (last_run clock capacity trace st.lasts s.number) frame st.world
+
+  -- a phase leaves the types of the world
+  outputs_types : (now : ℕ) (ss : List Numbered) (cs : List RunOutput) (st : State) → (with_outputs clock capacity trace frame now ss cs st).world.registry ≡ st.world.registry
+  outputs_types now [] cs st = refl
+  outputs_types now (s ∷ ss) [] st = refl
+  outputs_types now (s ∷ ss) (c ∷ cs) st = outputs_types (clock.next now) ss cs (with_output clock capacity trace frame (clock.next now) s c st)
+
+  pub outputs_keep_types : (ss : List Numbered) (st : State) → (after_phase clock capacity trace frame ss st).world.registry ≡ st.world.registry
+  unfolding joined
+  outputs_keep_types ss st =
+      outputs_types st.world.moment ss (joined_outputs clock frame st.world st.world.moment (turns_of clock capacity trace st ss))
+      (with_world st (joined clock frame (turns_of clock capacity trace st ss) st.world))
 
   pub phase_steps : (ss : List Numbered) → AreDistinct (map number_of ss) → (st : State) → AreApart st.world.registry (turns_of clock capacity trace st ss)
       → course_after_all clock capacity trace (tasks_of_phase frame ss) (Goes st) ≡ Goes (after_phase clock capacity trace frame ss st)

@@ -17,6 +17,7 @@ use Rattle.world_model.specs.Write.{marked}
 use Rattle.expr_eval.specs.Values.{OtherRows}
 use Rattle.expr_eval.specs.Rows.{others_of}
 use Rattle.scenario_record.specs.declared.record.SystemEntry.{SystemEntry}
+use Rattle.scenario_record.specs.Uses.{in_assign, in_switch, in_command, uses_of_assigns, uses_of}
 use Rattle.expr_trees.specs.declared.tree.Assign.{Assign}
 use Rattle.expr_trees.specs.declared.tree.Switch.{Switch}
 use Rattle.run_model.specs.Clock.{Clock}
@@ -24,11 +25,11 @@ use Rattle.run_model.specs.Query.{is_empty, has_shared, is_off, is_on, is_disabl
 use Rattle.run_model.specs.Job.{Spot, own_of, Text, Assigns, Switches, texts_of, writes, after_texts}
 use Rattle.run_model.specs.Commands.{recorded_from}
 use Rattle.run_model.specs.Run.{MatchedRow, entries_at, cells_after, recorded_at, rows_after, visited, recorded_of, matched_in, item_after, matched, blocks_after, entries_of}
-use Rattle.run_model.specs.Touched.{looked_up, own_types, named_types, own_in, looked_in}
+use Rattle.run_model.specs.Touched.{read_by, named_types}
 use Rattle.run_model.specs.Phases.{reads, touches}
 use Rattle.run_laws.specs.Agree.{Both, MarkAgree, CellsAgree, RowAgree, BlockAgree, FoundAgree, OthersAgree}
 use Rattle.run_laws.proofs.Lists.{both_map, both_append, in_left, in_right, has_in, in_passing, all_eq, any_eq, Within, within_left, within_right}
-use Rattle.run_laws.proofs.Agree.{cell_same, off_same, Sees, sees_left, sees_right, AllSeen, texts_agree, said_agree, own_value, looked_value, own_command, looked_command}
+use Rattle.run_laws.proofs.Agree.{cell_same, off_same, Sees, sees_left, sees_right, seen, AllSeen, texts_agree, said_agree}
 
 -- ---- lookups
 
@@ -128,46 +129,29 @@ module _ (clock : Clock) (registry : List TypeInfo) (s : SystemEntry) (last : Op
     in_reads : Within (reads s) X
     in_reads = within_left (reads s) (named_types registry s) X behind
 
-    in_own : Within (own_types s) X
-    in_own = within_left (own_types s) (looked_up s ++ s.changed) X in_reads
-
-    in_looked : Within (looked_up s) X
-    in_looked = within_left (looked_up s) s.changed X (within_right (own_types s) (looked_up s ++ s.changed) X in_reads)
-
     in_changed : Within s.changed X
-    in_changed = within_right (looked_up s) s.changed X (within_right (own_types s) (looked_up s ++ s.changed) X in_reads)
+    in_changed = within_right (read_by s) s.changed X in_reads
 
-    in_texts_all : Sees X (own_types s) (looked_up s)
-    in_texts_all = (in_own, in_looked)
+    in_texts : Sees X (uses_of s)
+    in_texts = seen X (uses_of s) (within_left (read_by s) s.changed X in_reads)
 
-    turns_seen : (ws : List Switch) → Sees X (flat_map (λ (w : Switch). own_in w.value) ws) (flat_map (λ (w : Switch). looked_in w.value) ws) → AllSeen X (map Switches ws)
-    turns_seen [] h = tt
-    turns_seen (w ∷ ws) h = (
-      sees_left X (own_in w.value) (flat_map (λ (w : Switch). own_in w.value) ws) (looked_in w.value) (flat_map (λ (w : Switch). looked_in w.value) ws) h,
-      turns_seen ws (sees_right X (own_in w.value) (flat_map (λ (w : Switch). own_in w.value) ws) (looked_in w.value) (flat_map (λ (w : Switch). looked_in w.value) ws) h),
-    )
+    switches_seen : (ws : List Switch) → Sees X (flat_map in_switch ws) → AllSeen X (map Switches ws)
+    switches_seen [] h = tt
+    switches_seen (w ∷ ws) h = (sees_left X (in_switch w) (flat_map in_switch ws) h, switches_seen ws (sees_right X (in_switch w) (flat_map in_switch ws) h))
 
-    sets_seen : (xs : List Assign) (ts : List Text) → Sees X (flat_map (λ (a : Assign). own_value a.value) xs) (flat_map (λ (a : Assign). looked_value a.value) xs) → AllSeen X ts → AllSeen X (map Assigns xs ++ ts)
-    sets_seen [] ts h rest = rest
-    sets_seen (a ∷ xs) ts h rest = (
-      sees_left X (own_value a.value) (flat_map (λ (a : Assign). own_value a.value) xs) (looked_value a.value) (flat_map (λ (a : Assign). looked_value a.value) xs) h,
-      sets_seen xs ts (sees_right X (own_value a.value) (flat_map (λ (a : Assign). own_value a.value) xs) (looked_value a.value) (flat_map (λ (a : Assign). looked_value a.value) xs) h) rest,
-    )
+    assigns_seen : (xs : List Assign) (ts : List Text) → Sees X (flat_map in_assign xs) → AllSeen X ts → AllSeen X (map Assigns xs ++ ts)
+    assigns_seen [] ts h rest = rest
+    assigns_seen (a ∷ xs) ts h rest = (sees_left X (in_assign a) (flat_map in_assign xs) h, assigns_seen xs ts (sees_right X (in_assign a) (flat_map in_assign xs) h) rest)
 
-    after_sets : Sees X (flat_map (λ (w : Switch). own_in w.value) s.enable ++ flat_map own_command s.command) (flat_map (λ (w : Switch). looked_in w.value) s.enable ++ flat_map looked_command s.command)
-    after_sets = sees_right X (flat_map (λ (a : Assign). own_value a.value) s.set) (flat_map (λ (w : Switch). own_in w.value) s.enable ++ flat_map own_command s.command)
-        (flat_map (λ (a : Assign). looked_value a.value) s.set) (flat_map (λ (w : Switch). looked_in w.value) s.enable ++ flat_map looked_command s.command) in_texts_all
+    after_assigns : Sees X (flat_map in_switch s.enable ++ flat_map in_command s.command)
+    after_assigns = sees_right X (uses_of_assigns s) (flat_map in_switch s.enable ++ flat_map in_command s.command) in_texts
 
     texts_seen : AllSeen X (texts_of s)
-    texts_seen = sets_seen s.set (map Switches s.enable)
-        (sees_left X (flat_map (λ (a : Assign). own_value a.value) s.set) (flat_map (λ (w : Switch). own_in w.value) s.enable ++ flat_map own_command s.command)
-        (flat_map (λ (a : Assign). looked_value a.value) s.set) (flat_map (λ (w : Switch). looked_in w.value) s.enable ++ flat_map looked_command s.command) in_texts_all)
-        (turns_seen s.enable (sees_left X (flat_map (λ (w : Switch). own_in w.value) s.enable) (flat_map own_command s.command)
-        (flat_map (λ (w : Switch). looked_in w.value) s.enable) (flat_map looked_command s.command) after_sets))
+    texts_seen = assigns_seen s.set (map Switches s.enable) (sees_left X (uses_of_assigns s) (flat_map in_switch s.enable ++ flat_map in_command s.command) in_texts)
+        (switches_seen s.enable (sees_left X (flat_map in_switch s.enable) (flat_map in_command s.command) after_assigns))
 
-    commands_seen : Sees X (flat_map own_command s.command) (flat_map looked_command s.command)
-    commands_seen = sees_right X (flat_map (λ (w : Switch). own_in w.value) s.enable) (flat_map own_command s.command)
-        (flat_map (λ (w : Switch). looked_in w.value) s.enable) (flat_map looked_command s.command) after_sets
+    commands_seen : Sees X (flat_map in_command s.command)
+    commands_seen = sees_right X (flat_map in_switch s.enable) (flat_map in_command s.command) after_assigns
 
     -- ---- queries
 

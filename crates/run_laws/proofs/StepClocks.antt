@@ -3,18 +3,17 @@
 use Rattle.std.proofs.Common.{◌≡◌, ℕ, ◌+◌, ◌≤◌, Bool, true, false, not, if◌then◌else◌, nat_eq, nat_le, List, [], ◌∷◌, ◌++◌, map, filter, fold, length, Option, Some, None, option_map, refl, sym, ap, ap₂, ◌∙◌, zero, suc, inl, inr, slice_get, slice_set}
 use Rattle.ent_types.specs.declared.entity.Entity.{Entity}
 use Rattle.ent_types.specs.declared.point.Point.{Point}
-use Rattle.ent_types.specs.declared.value.Value.{Value}
 use Rattle.system_version.specs.Versions.{version_of, IsVersion}
 use Rattle.system_version.proofs.VersionLemmas.{version_of-next}
 use Rattle.world_model.specs.Members.{In}
 use Rattle.world_model.specs.World.{Mark, Block, World}
 use Rattle.world_model.specs.Found.{Found, alive_count}
-use Rattle.world_model.specs.Ids.{room, with_ids_taken}
+use Rattle.world_model.specs.Ids.{room}
 use Rattle.world_model.specs.Operations.{Operation, On, Destroy, Answer}
-use Rattle.world_model.specs.Scenes.{Renaming, value_renamed, arrivals, block_moved, moved, built}
-use Rattle.world_model.specs.Versions.{block_versions, world_versions, answer_versions}
-use Rattle.world_laws.proofs.Members.{map_append}
-use Rattle.world_laws.proofs.Versions.{placed_turned, marks_turned, room_turned, operate_turned}
+use Rattle.world_model.specs.Scenes.{moved, built}
+use Rattle.world_model.specs.Versions.{mark_versions, block_versions, world_versions, answer_versions}
+use Rattle.world_laws.proofs.Versions.{placed_turned, room_turned, operate_turned}
+use Rattle.world_laws.proofs.MovedVersions.{moved_turned}
 use Rattle.scenario_record.specs.declared.record.SystemEntry.{SystemEntry}
 use Rattle.run_model.specs.declared.lines.NoteLine.TheVariants.{SceneArrived, SceneFull, Unloaded as UnloadedLine}
 use Rattle.run_model.specs.Clock.{moments, versions}
@@ -26,6 +25,19 @@ use Rattle.run_model.specs.Tasks.{FrameEvent, Operates, Loads, Unloads, FrameSte
 use Rattle.run_model.specs.Frames.{Buffer, State, Course, Goes, with_lines, with_scenes, scenes_changed, raised, operation_done, event_done, events_done, with_played, after_buffer, unless_shared, after_buffers, play_lines, after_point, waits_at, last_run, with_run, after_system, step_done, course_after}
 use Rattle.run_laws.specs.Versions.{state_versions, course_versions, IsLast, StateHasMoments}
 use Rattle.run_laws.proofs.Clocks.{versions_run}
+
+-- ---- a world whose moments stay
+
+marks_as_they_are : (ms : List Mark) → map (mark_versions (λ moment. moment)) ms ≡ ms
+marks_as_they_are [] = refl
+marks_as_they_are (m ∷ ms) = ap (λ (ns : List Mark). m ∷ ns) (marks_as_they_are ms)
+
+blocks_as_they_are : (bs : List Block) → map (block_versions (λ moment. moment)) bs ≡ bs
+blocks_as_they_are [] = refl
+blocks_as_they_are (b ∷ bs) = ap₂ (λ (ms : List Mark) cs. record b { marks = ms } ∷ cs) (marks_as_they_are b.marks) (blocks_as_they_are bs)
+
+as_it_is : (w : World) → world_versions (λ moment. moment) w ≡ w
+as_it_is w = ap (λ bs. record w { blocks = bs }) (blocks_as_they_are w.blocks)
 
 -- ---- playback and scenes, for any function from moments
 
@@ -52,20 +64,8 @@ module _ (v : ℕ → ℕ) (capacity : List ℕ → ℕ) where
 
   -- ---- scenes moved in
 
-  ids_turned : (n : ℕ) (w : World) → with_ids_taken n (world_versions v w) ≡ world_versions v (with_ids_taken n w)
-  ids_turned n w = refl
-
-  moved_blocks : (now : ℕ) (rs : List Renaming) (change : Value → Value) (bs : List Block) → map (block_moved (v now) rs change) bs ≡ map (block_versions v) (map (block_moved now rs change) bs)
-  moved_blocks now rs change [] = refl
-  moved_blocks now rs change (b ∷ bs) =
-      ap₂ (λ (c : Block) cs. c ∷ cs) (ap (λ (ms : List Mark). record (block_versions v (block_moved now rs change b)) { marks = ms }) (marks_turned v now b.home.types)) (moved_blocks now rs change bs)
-
-  moved_turned : (w scene : World) → moved (world_versions v w) scene ≡ world_versions v (moved w scene)
-  unfolding moved
-  moved_turned w scene =
-      ap₂ (λ (u : World) (bs : List Block). record u { blocks = bs }) (ids_turned (alive_count scene) w)
-      (ap (λ bs. map (block_versions v) w.blocks ++ bs) (moved_blocks w.moment (arrivals w scene) (value_renamed (arrivals w scene)) scene.blocks)
-      ∙ sym (map_append (block_versions v) w.blocks (map (block_moved w.moment (arrivals w scene) (value_renamed (arrivals w scene))) scene.blocks)))
+  scene_moved : (w scene : World) → moved (world_versions v w) scene ≡ world_versions v (moved w scene)
+  scene_moved w scene = ap (moved (world_versions v w)) (sym (as_it_is scene)) ∙ moved_turned v (λ moment. moment) w scene
 
   abbrev arrival_versions : Arrival → Arrival
   arrival_versions a = record a { world = world_versions v a.world }
@@ -85,7 +85,7 @@ module _ (v : ℕ → ℕ) (capacity : List ℕ → ℕ) where
       refuses u = record { world = u; state = Refused; line = SceneFull name frame }
 
       by : (b : Bool) → (if b then arrives (moved (world_versions v w) scene) else refuses (world_versions v w)) ≡ arrival_versions (if b then arrives (moved w scene) else refuses w)
-      by true = ap arrives (moved_turned w scene)
+      by true = ap arrives (scene_moved w scene)
       by false = refl
 
   arrival_turned : (frame number : ℕ) (name : List ℕ) (w : World) (file : SceneFile)

@@ -5,7 +5,7 @@ use Rattle.world_model.specs.Members.{In}
 use Rattle.world_model.specs.World.{Mark, Block, World}
 use Rattle.world_model.specs.Versions.{world_versions}
 use Rattle.run_model.specs.Run.{RunResult}
-use Rattle.run_model.specs.Frames.{State, Course, Goes, Stops}
+use Rattle.run_model.specs.Frames.{State, Course, Goes, Stops, End, Finished, AtSharedKey}
 
 abbrev pub run_versions : (ℕ → ℕ) → RunResult → RunResult
 run_versions version r = record r { world = world_versions version r.world }
@@ -29,6 +29,10 @@ state_versions version st = record st { world = world_versions version st.world;
 abbrev pub course_versions : (ℕ → ℕ) → Course → Course
 course_versions version (Goes st) = Goes (state_versions version st)
 course_versions version (Stops lines) = Stops lines
+
+abbrev pub end_versions : (ℕ → ℕ) → End → End
+end_versions version (Finished lines w) = Finished lines (world_versions version w)
+end_versions version (AtSharedKey lines) = AtSharedKey lines
 
 pub record StateHasMoments (st : State) : Type 0 where
   pub world : HasMoments st.world

@@ -1,39 +1,55 @@
 //! Laws of runs. Each is a function that does nothing, whose contract is the law.
 #![tactic(auto)]
 
-ghost use Rattle.std.specs.Prelude.{◌≡◌, ℕ, ◌+◌, ◌≤◌, Bool, true, List, length, map, filter, Option, option_map};
+ghost use Rattle.std.specs.Prelude.{◌≡◌, ◌↔◌, ℕ, ◌<◌, ◌≤◌, Bool, true, List, ◌∷◌, ◌++◌, length, map, filter, Option, None, option_map};
 ghost use Rattle.std.specs.List.{flat_map};
 ghost use Rattle.std.specs.List.Sorted.{IsPermutation, IsSortedBy};
 ghost use Rattle.ent_types.specs.declared.type_info.TypeInfo.{TypeInfo};
-ghost use Rattle.ent_types.specs.declared.limits.TheConstants.{MOST_MOMENTS};
-ghost use Rattle.system_version.specs.Versions.{version_of, IsVersion};
+ghost use Rattle.ent_types.specs.declared.limits.TheConstants.{MOST_FRAMES, MOST_MOMENTS, MOST_SYSTEMS, MOST_TYPES};
+ghost use Rattle.ent_types.specs.declared.point.Point.TheVariants.{BeginInitialization, EndInitialization, BeginSimulation, EndSimulation, BeginPresentation};
+ghost use Rattle.ent_types.specs.Registries.{IsLawfulRegistry};
+ghost use Rattle.system_version.specs.Versions.{version_of, IsMoment, IsVersion};
 ghost use Rattle.world_model.specs.Members.{In, AreDistinct};
-ghost use Rattle.world_model.specs.Lawful.{HasRoomForParts, IsLawful};
-ghost use Rattle.world_model.specs.World.{Home, Block, World};
+ghost use Rattle.world_model.specs.Lawful.{AreLawfulCells, HasRoomForParts, IsLawful};
+ghost use Rattle.world_model.specs.World.{Home, Block, World, capacity};
 ghost use Rattle.world_model.specs.Row.{Row};
 ghost use Rattle.world_model.specs.Found.{Found};
 ghost use Rattle.world_model.specs.Versions.{world_versions};
 ghost use Rattle.expr_eval.specs.Values.{OtherRows};
+ghost use Rattle.scenario_record.specs.declared.plan.Step.{Step};
+ghost use Rattle.scenario_record.specs.declared.record.Scenario.{Scenario};
 ghost use Rattle.scenario_record.specs.declared.record.SystemEntry.{SystemEntry};
+ghost use Rattle.system_order.specs.Roots.{IsForest};
 ghost use Rattle.run_model.specs.Clock.{Clock, moments, versions};
 ghost use Rattle.run_model.specs.Query.{matches, passes, visits};
+ghost use Rattle.run_model.specs.LawfulQuery.{IsLawfulQuery, SomeBitsMatch};
 ghost use Rattle.run_model.specs.Job.{Spot, writes};
 ghost use Rattle.run_model.specs.Run.{Entry, cells_after, recorded_at, matched, rows_of_visits, run};
 ghost use Rattle.run_model.specs.Buffers.{before, arranged, shared_key, shared_neighbours};
 ghost use Rattle.run_model.specs.Playback.{playback};
 ghost use Rattle.run_model.specs.Tasks.{Task};
-ghost use Rattle.run_model.specs.Frames.{State, Goes, course_after, course_after_all};
-ghost use Rattle.run_model.specs.Phases.{touches, phases, Turn, turn_of, AreApart, world_each, outputs_each, joined, joined_outputs};
+ghost use Rattle.run_model.specs.Loads.{SceneFile};
+ghost use Rattle.run_model.specs.Steps.{children_of, steps_of, IsOrdered, AreUnplaced};
+ghost use Rattle.run_model.specs.Frames.{State, Goes, course_after, course_after_all, end_of_run};
+ghost use Rattle.run_model.specs.Phases.{touches, conflicts, accesses_conflict, phases, Turn, turn_of, AreApart, world_each, outputs_each, joined, joined_outputs};
 ghost use Rattle.run_model.specs.PhaseSteps.{Numbered, number_of, tasks_of_phase, turns_of, after_phase};
+ghost use Rattle.run_model.specs.FrameParts.{EventsPart, PointPart, system_numbers, frame_parts, phases_below, end_by_phases};
+ghost use Rattle.run_model.specs.Outcome.{first_moment, course_of_first, outcome};
 ghost use Rattle.run_laws.specs.Agree.{CellsAgree, RowAgree, OthersAgree};
 ghost use Rattle.run_laws.specs.Entries.{AreDifferent};
 ghost use Rattle.run_laws.specs.Lawful.{IsLawfulState, StepSuits, step_requests, task_requests, HasFewLoads, OnGoes, IsLawfulWith};
 ghost use Rattle.run_laws.specs.Suits.{AllSuit, HasLawfulTexts, SystemSuits};
-ghost use Rattle.run_laws.specs.Versions.{run_versions, IsLast, HasMoments, state_versions, course_versions, StateHasMoments};
+ghost use Rattle.run_laws.specs.Versions.{run_versions, end_versions, IsLast, HasMoments, state_versions, course_versions, StateHasMoments};
 
 /// A row that matches has types that pass. So a block with a row that matches is never left out for its types.
 pub fn rows_that_match_have_types_that_pass()
     ensures { (registry : List TypeInfo) (s : SystemEntry) (x : Found) → matches registry s x ≡ true → passes registry s x.home.types ≡ true }
+{}
+
+/// The types of a row pass a lawful query if and only if some choice of what is disabled in the row lets it match.
+pub fn types_pass_if_some_bits_let_a_row_match()
+    ensures { (registry : List TypeInfo) → IsLawfulRegistry registry → (s : SystemEntry) → IsLawfulQuery registry s
+        → (x : Found) → AreLawfulCells registry x.home.types x.row.cells → (passes registry s x.home.types ≡ true) ↔ SomeBitsMatch registry s x }
 {}
 
 /// The items of a run are its visits: the blocks that it visits, in block order, each with its matching rows.
@@ -96,6 +112,14 @@ pub fn versions_stand_for_moments_in_a_step()
         ≡ course_versions (version_of first) (course_after (moments first) capacity trace st t) }
 {}
 
+/// Versions of 32 bits stand for moments in the whole run of a scenario, which begins with its first system version: the
+/// same lines are written, and the world has versions instead of moments.
+pub fn versions_stand_for_moments_in_a_scenario()
+    ensures { (trace : Bool) (files : List ℕ → SceneFile) (s : Scenario) → IsVersion s.first_system_version → IsOrdered s → s.frames ≤ MOST_FRAMES → length s.system ≤ MOST_SYSTEMS
+        → end_of_run versions (capacity s.registry) trace files s (steps_of s) s.first_system_version
+        ≡ end_versions (version_of s.first_system_version) (outcome trace files s) }
+{}
+
 /// A phase of systems that don't conflict is the fold of its systems. What their items make of the first world, put
 /// together, is the world after all systems one after another; and each system visits the same blocks and records the same.
 pub fn phases_are_the_fold_of_their_systems()
@@ -116,6 +140,34 @@ pub fn phases_are_steps_of_a_run()
     ensures { (clock : Clock) (capacity : List ℕ → ℕ) (trace : Bool) (frame : ℕ) (ss : List Numbered) → AreDistinct (map number_of ss) → (st : State)
         → AreApart st.world.registry (turns_of clock capacity trace st ss)
         → course_after_all clock capacity trace (tasks_of_phase frame ss) (Goes st) ≡ Goes (after_phase clock capacity trace frame ss st) }
+{}
+
+/// The steps of a frame have no system twice.
+pub fn steps_have_each_system_once()
+    ensures { (s : Scenario) → IsOrdered s → AreDistinct (system_numbers (steps_of s)) }
+{}
+
+/// The phases of a frame are those of the running systems of each root. No phase crosses a point.
+pub fn phases_are_those_of_each_root()
+    ensures { (s : Scenario) (frame : ℕ) → frame_parts s frame (steps_of s)
+        ≡ EventsPart ∷ PointPart BeginInitialization ∷ (phases_below s frame 0 ++ (PointPart EndInitialization ∷
+        PointPart BeginSimulation ∷ (phases_below s frame 1 ++ (PointPart EndSimulation ∷
+        PointPart BeginPresentation ∷ phases_below s frame 2)))) }
+{}
+
+/// A run with the systems of each phase side by side ends as the run with one system after another.
+pub fn phases_are_the_fold_of_the_steps()
+    ensures steps { (clock : Clock) (capacity : List ℕ → ℕ) (trace : Bool) (files : List ℕ → SceneFile) (s : Scenario) (steps : List Step)
+        → AreDistinct (system_numbers steps) → (moment : ℕ)
+        → end_by_phases clock capacity trace files s steps moment ≡ end_of_run clock capacity trace files s steps moment }
+    ensures outcome { (trace : Bool) (files : List ℕ → SceneFile) (s : Scenario) → IsOrdered s
+        → outcome trace files s ≡ end_by_phases (moments s.first_system_version) (capacity s.registry) trace files s (steps_of s) first_moment }
+{}
+
+/// A run has at most MOST_MOMENTS moments, for which the versions of 32 bits can stand.
+pub fn runs_have_few_moments()
+    ensures { (trace : Bool) (files : List ℕ → SceneFile) (s : Scenario) → IsOrdered s → s.frames ≤ MOST_FRAMES → length s.system ≤ MOST_SYSTEMS
+        → (n : ℕ) → OnGoes (λ st. IsMoment st.world.moment) (course_of_first trace files s n) }
 {}
 
 /// A run keeps a world lawful, if no assignment of the system writes a dynamic buffer, and each enable text switches an

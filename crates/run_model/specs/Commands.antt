@@ -1,5 +1,5 @@
 -- What a row records: structural changes for later, each with its key. Their values are computed when they are recorded.
-use Rattle.std.specs.Prelude.{ℕ, ℤ, ◌+◌, ◌%◌, Bool, true, false, ◌&&◌, if◌then◌else◌, List, [], ◌∷◌, ◌++◌, length, map}
+use Rattle.std.specs.Prelude.{ℕ, ℤ, ◌+◌, ◌%◌, Bool, true, false, ◌&&◌, if◌then◌else◌, List, [], ◌∷◌, ◌++◌, length, map, flat_map}
 use Rattle.std.specs.Int.{int_wrap, w32}
 use Rattle.std.specs.List.{list_all}
 use Rattle.ent_types.specs.declared.entity.Entity.{Entity}
@@ -22,7 +22,7 @@ use Rattle.expr_trees.specs.declared.tree.PartExpr.{PartExpr}
 use Rattle.expr_trees.specs.declared.tree.CommandText.{CommandText}
 use Rattle.expr_trees.specs.declared.tree.CommandText.TheVariants as texts
 use Rattle.scenario_record.specs.declared.record.CommandEntry.{CommandEntry}
-use Rattle.run_model.specs.Touched.{in_act}
+use Rattle.scenario_record.specs.Uses.{Use, own_number, own_ref, looked_up, has_type as tested_type, on_type, made, in_act}
 
 -- what a command acts on: an entity, or the one that the command of this number makes for the same row
 pub data Target : Type 0 where
@@ -63,16 +63,17 @@ abbrev pub given_of : OwnRow → OtherRows → FieldKind → ValueExpr → Given
 given_of own others kind (values.Int e) = Known (fit kind (Int (value own others e)))
 given_of own others kind (values.Ref r) = given_ref kind (target_of own r)
 
-abbrev pub placeholders_in_ref : RefExpr → List ℕ
-placeholders_in_ref refs.Null = []
-placeholders_in_ref refs.Me = []
-placeholders_in_ref (refs.Made k) = k ∷ []
-placeholders_in_ref (refs.Own ty i) = []
-placeholders_in_ref (refs.Entity e) = []
+abbrev pub placeholders_of : Use → List ℕ
+placeholders_of (own_number ty i) = []
+placeholders_of (own_ref ty i) = []
+placeholders_of (looked_up ty i) = []
+placeholders_of (tested_type ty) = []
+placeholders_of (on_type ty) = []
+placeholders_of (made k) = k ∷ []
 
 -- the commands whose entities a command names
 abbrev pub placeholders_in : CommandText → List ℕ
-placeholders_in act = in_act (λ e. []) placeholders_in_ref act
+placeholders_in act = flat_map placeholders_of (in_act act)
 
 module _ (registry : List TypeInfo) (own : OwnRow) (others : OtherRows) where
   -- The values of a part, from the one at this place on. A buffer has several elements, so the kinds of its fields begin

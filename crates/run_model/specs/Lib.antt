@@ -1,5 +1,6 @@
 pub mod Clock
 pub mod Query
+pub mod LawfulQuery
 pub mod Touched
 pub mod Job
 pub mod Commands
@@ -8,6 +9,9 @@ pub mod Buffers
 pub mod Playback
 pub mod Loads
 pub mod Tasks
+pub mod Steps
 pub mod Frames
 pub mod Phases
 pub mod PhaseSteps
+pub mod FrameParts
+pub mod Outcome

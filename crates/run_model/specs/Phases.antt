@@ -8,18 +8,19 @@ use Rattle.world_model.specs.Row.{Cell, Row}
 use Rattle.world_model.specs.World.{Home, Block, World}
 use Rattle.world_model.specs.Write.{marked}
 use Rattle.expr_eval.specs.Values.{OtherRows}
+use Rattle.scenario_record.specs.declared.plan.Access.{Access}
 use Rattle.scenario_record.specs.declared.record.SystemEntry.{SystemEntry}
 use Rattle.run_model.specs.Clock.{Clock}
 use Rattle.run_model.specs.Query.{matches, passes, is_visited}
 use Rattle.run_model.specs.Job.{others_in, writes}
 use Rattle.run_model.specs.Run.{Entry, RunResult, entries_at, row_after, recorded_of, matched_in, item_after, run}
-use Rattle.run_model.specs.Touched.{looked_up, own_types, named_types}
+use Rattle.run_model.specs.Touched.{read_by, named_types}
 
 -- ---- conflicts
 
 -- the types that a system reads: those of its own fields, of `on` and `get`, and of its change filter
 abbrev pub reads : SystemEntry → List ℕ
-reads s = own_types s ++ (looked_up s ++ s.changed)
+reads s = read_by s ++ s.changed
 
 -- all types on which a run of the system depends or that it writes
 abbrev pub touches : List TypeInfo → SystemEntry → List ℕ
@@ -29,18 +30,28 @@ touches registry s = writes s ++ (reads s ++ named_types registry s)
 abbrev pub conflicts : List TypeInfo → SystemEntry → SystemEntry → Bool
 conflicts registry s r = meets (writes s) (touches registry r) || meets (writes r) (touches registry s)
 
--- The phases of systems, in order: a system joins the last phase where it conflicts with none of its systems, else it
--- begins a new one. `phase` is the phase that is open.
-abbrev pub phases_from : List TypeInfo → List SystemEntry → List SystemEntry → List (List SystemEntry)
-phases_from registry phase [] = phase ∷ []
-phases_from registry phase (s ∷ ss) =
-    if list_any (conflicts registry s) phase
-    then phase ∷ phases_from registry (s ∷ []) ss
-    else phases_from registry (phase ++ s ∷ []) ss
+-- the same, by what a plan says of the two systems
+abbrev pub accesses_conflict : Access → Access → Bool
+accesses_conflict a b = meets a.writes (b.writes ++ (b.reads ++ b.named)) || meets b.writes (a.writes ++ (a.reads ++ a.named))
 
+-- ---- phases
+
+-- Systems in order, put into phases: a system joins the last phase where it conflicts with none of its systems, else it
+-- begins a new one. `phase` is the phase that is open. What stands for a system is its record or its number.
+abbrev pub phases_from : {S : Type 0} → (S → S → Bool) → List S → List S → List (List S)
+phases_from conflict phase [] = phase ∷ []
+phases_from conflict phase (s ∷ ss) =
+    if list_any (conflict s) phase
+    then phase ∷ phases_from conflict (s ∷ []) ss
+    else phases_from conflict (phase ++ s ∷ []) ss
+
+abbrev pub phases_by : {S : Type 0} → (S → S → Bool) → List S → List (List S)
+phases_by conflict [] = []
+phases_by conflict (s ∷ ss) = phases_from conflict (s ∷ []) ss
+
+-- the phases of systems that run one after another
 abbrev pub phases : List TypeInfo → List SystemEntry → List (List SystemEntry)
-phases registry [] = []
-phases registry (s ∷ ss) = phases_from registry (s ∷ []) ss
+phases registry ss = phases_by (conflicts registry) ss
 
 -- ---- one system after another
 
