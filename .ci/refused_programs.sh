@@ -7,7 +7,7 @@
 set -u
 cd "$(dirname "$0")/.." || exit 1
 root=$PWD
-readonly crates="ent_types chunk_layout enable_bits buffer_store block_columns world_model chunk_block"
+readonly crates="system_version ent_types chunk_layout enable_bits buffer_store block_columns world_model chunk_block"
 copy=$(mktemp -d) || exit 1
 trap 'rm -rf "$copy"' EXIT
 
