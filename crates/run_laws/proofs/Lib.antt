@@ -17,6 +17,7 @@ pub mod Walk
 pub mod Steady
 pub mod FrameFold
 pub mod RootPhases
+pub mod Planned
 pub mod Moments
 pub mod Past
 pub mod RunVersions

@@ -1,11 +1,11 @@
 //! Laws of runs. Each is a function that does nothing, whose contract is the law.
 #![tactic(auto)]
 
-ghost use Rattle.std.specs.Prelude.{◌≡◌, ◌↔◌, ℕ, ◌<◌, ◌≤◌, Bool, true, List, ◌∷◌, ◌++◌, length, map, filter, Option, None, option_map};
-ghost use Rattle.std.specs.List.{flat_map};
+ghost use Rattle.std.specs.Prelude.{◌≡◌, ◌↔◌, ℕ, ◌≤◌, Bool, true, List, [], ◌∷◌, ◌++◌, length, map, filter, Option, option_map};
+ghost use Rattle.std.specs.List.{flat_map, range_with_len};
 ghost use Rattle.std.specs.List.Sorted.{IsPermutation, IsSortedBy};
 ghost use Rattle.ent_types.specs.declared.type_info.TypeInfo.{TypeInfo};
-ghost use Rattle.ent_types.specs.declared.limits.TheConstants.{MOST_FRAMES, MOST_MOMENTS, MOST_SYSTEMS, MOST_TYPES};
+ghost use Rattle.ent_types.specs.declared.limits.TheConstants.{MOST_FRAMES, MOST_MOMENTS, MOST_SYSTEMS};
 ghost use Rattle.ent_types.specs.declared.point.Point.TheVariants.{BeginInitialization, EndInitialization, BeginSimulation, EndSimulation, BeginPresentation};
 ghost use Rattle.ent_types.specs.Registries.{IsLawfulRegistry};
 ghost use Rattle.system_version.specs.Versions.{version_of, IsMoment, IsVersion};
@@ -17,9 +17,9 @@ ghost use Rattle.world_model.specs.Found.{Found};
 ghost use Rattle.world_model.specs.Versions.{world_versions};
 ghost use Rattle.expr_eval.specs.Values.{OtherRows};
 ghost use Rattle.scenario_record.specs.declared.plan.Step.{Step};
+ghost use Rattle.scenario_record.specs.declared.plan.Step.TheVariants.{Events, Play, Run};
 ghost use Rattle.scenario_record.specs.declared.record.Scenario.{Scenario};
 ghost use Rattle.scenario_record.specs.declared.record.SystemEntry.{SystemEntry};
-ghost use Rattle.system_order.specs.Roots.{IsForest};
 ghost use Rattle.run_model.specs.Clock.{Clock, moments, versions};
 ghost use Rattle.run_model.specs.Query.{matches, passes, visits};
 ghost use Rattle.run_model.specs.LawfulQuery.{IsLawfulQuery, SomeBitsMatch};
@@ -29,9 +29,9 @@ ghost use Rattle.run_model.specs.Buffers.{before, arranged, shared_key, shared_n
 ghost use Rattle.run_model.specs.Playback.{playback};
 ghost use Rattle.run_model.specs.Tasks.{Task};
 ghost use Rattle.run_model.specs.Loads.{SceneFile};
-ghost use Rattle.run_model.specs.Steps.{children_of, steps_of, IsOrdered, AreUnplaced};
+ghost use Rattle.run_model.specs.Steps.{steps_of, IsOrdered, AreUnplaced};
 ghost use Rattle.run_model.specs.Frames.{State, Goes, course_after, course_after_all, end_of_run};
-ghost use Rattle.run_model.specs.Phases.{touches, conflicts, accesses_conflict, phases, Turn, turn_of, AreApart, world_each, outputs_each, joined, joined_outputs};
+ghost use Rattle.run_model.specs.Phases.{touches, phases, Turn, turn_of, AreApart, world_each, outputs_each, joined, joined_outputs};
 ghost use Rattle.run_model.specs.PhaseSteps.{Numbered, number_of, tasks_of_phase, turns_of, after_phase};
 ghost use Rattle.run_model.specs.FrameParts.{EventsPart, PointPart, system_numbers, frame_parts, phases_below, end_by_phases};
 ghost use Rattle.run_model.specs.Outcome.{first_moment, course_of_first, outcome};
@@ -140,6 +140,14 @@ pub fn phases_are_steps_of_a_run()
     ensures { (clock : Clock) (capacity : List ℕ → ℕ) (trace : Bool) (frame : ℕ) (ss : List Numbered) → AreDistinct (map number_of ss) → (st : State)
         → AreApart st.world.registry (turns_of clock capacity trace st ss)
         → course_after_all clock capacity trace (tasks_of_phase frame ss) (Goes st) ≡ Goes (after_phase clock capacity trace frame ss st) }
+{}
+
+/// If no key places a system, the steps of a frame are those of today's plans: all systems in declared order, as those of
+/// Simulation.
+pub fn unplaced_systems_run_in_declared_order()
+    ensures { (s : Scenario) → AreUnplaced s → steps_of s
+        ≡ Events ∷ Play BeginInitialization ∷ Play EndInitialization ∷ Play BeginSimulation ∷
+        (map (λ n. Run n) (range_with_len 0 (length s.system)) ++ (Play EndSimulation ∷ Play BeginPresentation ∷ [])) }
 {}
 
 /// The steps of a frame have no system twice.
