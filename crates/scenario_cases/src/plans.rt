@@ -135,18 +135,26 @@ fn print_access<R: Print>(rt: &R, registry: &Registry, access: &Access) -> Resul
 
 /// Prints the names of types, with commas between them.
 fn print_names<R: Print>(rt: &R, registry: &Registry, types: &TypeSet) -> Result<(), Fault> {
-    let mut mark = "";
+    let mut is_first = true;
     for ty in types.iter() {
-        print_name(rt, registry, mark, ty)?;
-        mark = ",";
+        print_name(rt, registry, is_first, ty)?;
+        is_first = false;
     }
     Ok(())
 }
 
-/// Prints a mark and the name of a type.
-fn print_name<R: Print>(rt: &R, registry: &Registry, mark: &str, ty: TypeId) -> Result<(), Fault> {
+/// Prints the name of a type, after a comma unless it is the first.
+fn print_name<R: Print>(
+    rt: &R,
+    registry: &Registry,
+    is_first: bool,
+    ty: TypeId,
+) -> Result<(), Fault> {
     if !registry.knows(ty) {
         return Err(Fault::Plan);
     }
-    Ok(print!(rt; "{mark}{}", registry.info(ty).name.as_str())?)
+    if !is_first {
+        print!(rt; ",")?;
+    }
+    Ok(print!(rt; "{}", registry.info(ty).name.as_str())?)
 }
