@@ -37,13 +37,14 @@ abbrev reference : FieldInfo
 reference = record { name = []; kind = RefField }
 
 -- 0 Disabled, 1 Prefab, 2 SceneTag, 3 a plain type, 4 a tag that can be switched, 5 a shared type, 6 a cleanup type, 7 a
--- reference, 8 a buffer of numbers, 9 a type that is too large, 10 a buffer of references
+-- reference, 8 a buffer of numbers, 9 a type that is too large, 10 a buffer of references,
+-- 11 a buffer of pairs of references
 abbrev registry : List TypeInfo
 registry =
     a_type Tag [] false ∷ a_type Tag [] false ∷ a_type Shared (record { name = []; kind = I64 } ∷ []) false
     ∷ a_type Plain (number ∷ []) false ∷ a_type Tag [] true ∷ a_type Shared (number ∷ []) false ∷ a_type Cleanup (number ∷ []) false
     ∷ a_type Plain (reference ∷ []) false ∷ a_type Buffer (number ∷ []) false ∷ a_type Plain (number ∷ []) false
-    ∷ a_type Buffer (reference ∷ []) false ∷ []
+    ∷ a_type Buffer (reference ∷ []) false ∷ a_type Buffer (reference ∷ reference ∷ []) false ∷ []
 
 -- two rows in a block, and none where type 9 is
 abbrev two : List ℕ → ℕ
@@ -450,6 +451,13 @@ put_in_element : put_element_ref (e 0 1) 10 1 0 (e 9 9) (world (block (10 ∷ []
     ≡ world (block (10 ∷ []) [] (mark 10 5 ∷ []) 2 (row (e 0 1) (buffer_cell 10 (Ref (e 1 1) ∷ Ref (e 9 9) ∷ []) ∷ []) ∷ []) ∷ []) [] 1
 unfolding put_element_ref rewrite
 put_in_element = refl
+
+-- an element has as many values as the type has fields
+put_in_second_field : put_element_ref (e 0 1) 11 1 1 (e 9 9)
+    (world (block (11 ∷ []) [] (mark 11 2 ∷ []) 2 (row (e 0 1) (buffer_cell 11 (Ref (e 1 1) ∷ Ref (e 2 1) ∷ Ref (e 3 1) ∷ Ref (e 4 1) ∷ []) ∷ []) ∷ []) ∷ []) [] 1)
+    ≡ world (block (11 ∷ []) [] (mark 11 5 ∷ []) 2 (row (e 0 1) (buffer_cell 11 (Ref (e 1 1) ∷ Ref (e 2 1) ∷ Ref (e 3 1) ∷ Ref (e 9 9) ∷ []) ∷ []) ∷ []) ∷ []) [] 1
+unfolding put_element_ref rewrite
+put_in_second_field = refl
 
 ids_in_order : next_ids 4 (e 4 2 ∷ e 3 9 ∷ []) 7 1 ≡ e 4 2 ∷ e 3 9 ∷ e 7 1 ∷ e 8 1 ∷ []
 ids_in_order = refl
