@@ -14,3 +14,5 @@ mod fixtures;
 mod lending;
 #[cfg(test)]
 mod rows;
+#[cfg(test)]
+mod stores;

@@ -1,0 +1,9 @@
+pub mod Times
+pub mod Values
+pub mod Holding
+pub mod Orders
+pub mod Views
+pub mod Writes
+pub mod Shapes
+pub mod Added
+pub mod Found

@@ -1,0 +1,74 @@
+-- What a call that writes into the block of a number finds and leaves.
+use Rattle.std.proofs.Common.{◌≡◌, ℕ, ◌<◌, Bool, true, false, cond, nat_eq, List, [], ◌∷◌, length, set, get_or, map, Option, Some, None, refl, sym, ap, ◌∙◌, subst}
+use Rattle.std.specs.Bool.{MatchBool}
+use Rattle.std.specs.Option.{IsSome}
+use Rattle.std.specs.Vec.{vec_capacity}
+use Rattle.std.proofs.lemmas.List.{get_or_default}
+use Rattle.chunk_block.specs.Blocks.{BlockState}
+use Rattle.archetype_store.specs.declared.slots.Held.{Held}
+use Rattle.archetype_store.specs.declared.store.ArchetypeStore.TheInside.{Inside}
+use Rattle.archetype_store.specs.Slots.{slot_at}
+use Rattle.archetype_store.specs.Stores.{StoreState, Numbered, OfBlock, OfNumber, with_block, with_block_in}
+use Rattle.archetype_store.specs.Inside.{Beside, beside, kept, view_of, blocks_in, numbered, IsOrderly, IsConsistent}
+use Rattle.archetype_store.proofs.Orders.{below_of, none_some, some_is}
+use Rattle.archetype_store.proofs.Views.{at_number, for_number, written, kept-written}
+
+-- what holds of a block that was changed
+of-changed : (n : ℕ) (f : BlockState → BlockState) (Q : BlockState → Type 0) (P : Numbered → Type 0) (bs : List Numbered) → OfNumber n P bs → ((b : Numbered) → P b → Q (f b.block)) → OfBlock n Q (with_block n f bs)
+of-changed n f Q P [] is so = absurd is
+of-changed n f Q P (b ∷ bs) is so = by (nat_eq b.number n) refl is (λ h. of-changed n f Q P bs h so)
+  where
+    by : (t : Bool) → nat_eq b.number n ≡ t → MatchBool t (P b) (OfNumber n P bs) → (OfNumber n P bs → OfBlock n Q (with_block n f bs))
+        → OfBlock n Q (cond t (record b { block = f b.block }) b ∷ with_block n f bs)
+    by true same is rest = subst (λ t. MatchBool t (Q (f b.block)) (OfBlock n Q (with_block n f bs))) (sym same) (so b is)
+    by false apart is rest = subst (λ t. MatchBool t (Q b.block) (OfBlock n Q (with_block n f bs))) (sym apart) (rest is)
+
+module _ (s : Inside) (store : StoreState) (seen : view_of s ≡ store) (n : ℕ) (P : BlockState → Type 0) (is : OfBlock n P store.blocks) where
+  there : (h : Held) × ((slot_at s.slots.items n ≡ Some h) × P h.block)
+  there = at_number (λ b. P b.block) s.slots.items s.shared n s.order.items (subst (λ (v : StoreState). OfBlock n P v.blocks) (sym seen) is)
+
+  pub number-below : n < length s.slots.items
+  number-below = below_of s.slots.items n there.0 there.1.0
+
+  pub slot-found : (r : Option Held) → r ≡ get_or s.slots.items n r → slot_at s.slots.items n ≡ r
+  slot-found r at = get_or_default s.slots.items n None r number-below ∙ sym at
+
+  pub slot-used : (r : Option Held) → r ≡ get_or s.slots.items n r → r ≡ None → ⊥
+  slot-used r at none = none_some there.0 (sym none ∙ sym (slot-found r at) ∙ there.1.0)
+
+  pub block-is : (h : Held) → slot_at s.slots.items n ≡ Some h → P h.block
+  block-is h at = subst (λ (k : Held). P k.block) (some_is there.0 h (sym there.1.0 ∙ at)) there.1.1
+
+  pub slot-some : IsSome (slot_at s.slots.items n)
+  slot-some = subst IsSome (sym there.1.0) refl
+
+  -- what holds of the block that is found
+  pub of-block : (Q : BlockState → Type 0) (h : Held) → slot_at s.slots.items n ≡ Some h → Q h.block → OfBlock n Q store.blocks
+  of-block Q h at holds =
+      subst (λ (v : StoreState). OfBlock n Q v.blocks) seen
+      (for_number (λ b. Q b.block) (λ b. P b.block) s.slots.items s.shared n s.order.items (subst (λ (v : StoreState). OfBlock n P v.blocks) (sym seen) is)
+      (λ k found. subst (λ (x : Held). Q x.block) (some_is h k (sym at ∙ found)) holds))
+
+  -- the store after the block changed
+  pub store-written : (h : Held) (f : BlockState → BlockState) (block : BlockState) → slot_at s.slots.items n ≡ Some h → block ≡ f h.block
+      → record (view_of s) { blocks = blocks_in (set s.slots.items n (Some (record h { block = block }))) s.shared s.order.items } ≡ with_block_in n f store
+  store-written h f block at is =
+      ap (λ (b : BlockState). record (view_of s) { blocks = blocks_in (set s.slots.items n (Some (record h { block = b }))) s.shared s.order.items }) is
+      ∙ ap (λ bs. record (view_of s) { blocks = bs }) (written s.slots.items s.shared n h f at s.order.items)
+      ∙ ap (with_block_in n f) seen
+
+  -- and what holds of the block that is left
+  pub of-new-block : (Q : BlockState → Type 0) (h : Held) (f : BlockState → BlockState) (block : BlockState) → slot_at s.slots.items n ≡ Some h → block ≡ f h.block → Q block
+      → OfBlock n Q (blocks_in (set s.slots.items n (Some (record h { block = block }))) s.shared s.order.items)
+  of-new-block Q h f block at made holds =
+      subst (OfBlock n Q) (sym (ap (λ b. blocks_in (set s.slots.items n (Some (record h { block = b }))) s.shared s.order.items) made ∙ written s.slots.items s.shared n h f at s.order.items))
+      (of-changed n f Q (λ b. Q (f b.block)) (view_of s).blocks
+      (for_number (λ b. Q (f b.block)) (λ b. P b.block) s.slots.items s.shared n s.order.items (subst (λ (v : StoreState). OfBlock n P v.blocks) (sym seen) is)
+      (λ k found. subst (λ (x : Held). Q (f x.block)) (some_is h k (sym at ∙ found)) (subst Q made holds))) (λ b holds. holds))
+
+  pub orderly-written : (h : Held) (f : BlockState → BlockState) (block : BlockState) → slot_at s.slots.items n ≡ Some h → block ≡ f h.block
+      → beside (record h { block = f h.block }) ≡ beside h → IsConsistent s
+      → IsOrderly s.registry s.archetypes.items (map (λ v. v.items) s.members.items) (kept (set s.slots.items n (Some (record h { block = block })))) s.free.items (vec_capacity s.free) s.order.items s.shared
+  orderly-written h f block at is same orderly =
+      subst (λ slots. IsOrderly s.registry s.archetypes.items (map (λ v. v.items) s.members.items) slots s.free.items (vec_capacity s.free) s.order.items s.shared)
+      (sym (ap (λ b. kept (set s.slots.items n (Some (record h { block = b })))) is ∙ kept-written s.slots.items s.shared n h f at same)) orderly

@@ -1,0 +1,30 @@
+use Rattle.std.proofs.Common.{◌≡◌, ℕ, Bool, true, false, List, map, Result, Ok, Err, IfOk, refl, sym, ap, ◌∙◌, subst}
+use Rattle.std.proofs.lemmas.Bool.{false≢true}
+use Rattle.ent_types.specs.declared.memory.Memory.{Memory}
+use Rattle.ent_types.specs.declared.value.Value.{Value}
+use Rattle.world_model.specs.Part.{PartOf, part_of as seen_part}
+use Rattle.archetype_store.specs.Stores.{StoreState, Adds, Opens, is_full, IsFirstWithRoom, new_numbered}
+use Rattle.archetype_store.proofs.Found.{first-not-full, first-added, new-has-room}
+use Rattle.archetype_store.proofs.store.ArchetypeStore.place_for.Goals as goal
+
+pub returns-in-Some-clause-ok : goal.returns-in-Some-clause-ok
+returns-in-Some-clause-ok c =
+    let parts : List (PartOf Value) = map seen_part c.args.shared.now in
+    let has : is_full c.args.a parts c.args.self.now.blocks ≡ false = first-not-full c.args.a parts c.in-Some.number c.args.self.now.blocks c.in-Some.ensures.some in
+    record { found = λ _. refl; added = λ full. absurd (false≢true (sym has ∙ full)); first = c.in-Some.ensures.some }
+
+pub returns-in-None-clause-ok : goal.returns-in-None-clause-ok
+returns-in-None-clause-ok c = by c.add_block.result c.add_block.ensures.ok
+  where
+    parts : List (PartOf Value)
+    parts = map seen_part c.args.shared.now
+
+    by : (r : Result ℕ Memory) → IfOk r (Adds c.args.self.now c.add_block.new.self c.args.a parts) → IfOk r (Opens c.args.self.now c.add_block.new.self c.args.a parts)
+    by (Err e) is = tt
+    by (Ok n) is = record {
+      found = λ some. absurd (false≢true (sym some ∙ c.in-None.ensures.none));
+      added = λ _. is;
+      first =
+          subst (IsFirstWithRoom c.args.a parts n) (sym is.blocks.blocks)
+          (first-added c.args.a parts (new_numbered c.args.self.now c.args.a parts n) c.args.self.now.blocks c.in-None.ensures.none (new-has-room c.args.self.now c.args.a parts n is.room));
+    }

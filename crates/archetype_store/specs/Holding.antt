@@ -1,0 +1,40 @@
+-- Ids of shared values that blocks hold.
+use Rattle.std.specs.Prelude.{ℕ, ◌≡◌, ◌<◌, ◌≤◌, ◌+◌, min, nat_eq, List, [], ◌∷◌, ◌++◌, map}
+use Rattle.ent_types.specs.declared.value.Value.{Value}
+use Rattle.world_model.specs.Members.{In}
+use Rattle.world_model.specs.Part.{PartOf}
+use Rattle.shared_values.specs.declared.table.Slot.{Slot as Interned}
+use Rattle.shared_values.specs.Holds.{holds_of, values_of}
+use Rattle.archetype_store.specs.Times.{times}
+use Rattle.archetype_store.specs.declared.shared_parts.SharedPart.{SharedPart}
+
+-- the greatest count of holders of an id
+abbrev pub most_holds : ℕ
+most_holds = 18446744073709551615
+
+-- the part that a type and an id stand for
+abbrev pub part_of : List Interned → SharedPart → PartOf Value
+part_of table p = record { type_id = p.ty.0; values = values_of table p.id }
+
+abbrev pub parts_of : List Interned → List SharedPart → List (PartOf Value)
+parts_of table ps = map (part_of table) ps
+
+abbrev pub ids_of : List SharedPart → List ℕ
+ids_of ps = map (λ p. p.id) ps
+
+-- each id is held as often as it is in the list, or as often as is counted
+pub record Backs (table : List Interned) (ids : List ℕ) : Type 0 where
+  pub holds : (id : ℕ) → min (times id ids) most_holds ≤ holds_of table id
+
+-- the ids of a list have the values that they had
+pub record KeepsValues (old new : List Interned) (ids : List ℕ) : Type 0 where
+  pub values : (id : ℕ) → In id ids → values_of new id ≡ values_of old id
+
+-- more ids are held than before, beside others
+pub record Holds (old new : List Interned) (before after : List SharedPart) (others : List ℕ) : Type 0 where
+  pub backs : Backs new (ids_of after ++ others)
+  pub keeps : KeepsValues old new (ids_of before ++ others)
+
+-- some ids are held no longer; others still are
+abbrev pub Releases : List Interned → List Interned → List SharedPart → Type 0
+Releases old new held = (others : List ℕ) → Backs old (ids_of held ++ others) → Holds old new [] [] others

@@ -1,0 +1,136 @@
+-- A store as it is kept: a slot for each number, the numbers in block order, and the interned values.
+use Rattle.std.specs.Prelude.{ℕ, ◌≡◌, ◌<◌, ◌≤◌, ◌+◌, Bool, false, ◌&&◌, nat_lt, nat_eq, List, [], ◌∷◌, length, map, filter, Option, Some, None, option_map, option_and_then, slice_index_or, count_by, is_some, unwrap_or}
+use Rattle.std.specs.List.{filter_map, flat_map}
+use Rattle.std.specs.Option.{IsSome}
+use Rattle.std.specs.Vec.{vec_capacity}
+use Rattle.std.specs.Cmp.Lexicographic.{pointwise}
+use Rattle.ent_types.specs.declared.value.Value.{Value}
+use Rattle.world_model.specs.Part.{PartOf, same_part}
+use Rattle.ent_types.specs.declared.type_info.TypeInfo.{TypeInfo}
+use Rattle.world_model.specs.World.{capacity}
+use Rattle.block_columns.specs.declared.shape.TypeShape.{TypeShape}
+use Rattle.chunk_block.specs.Blocks.{new_types}
+use Rattle.shared_values.specs.declared.table.Slot.{Slot as Interned}
+use Rattle.archetype_store.specs.declared.numbers.TheConstants.{MOST_NUMBERS}
+use Rattle.archetype_store.specs.declared.shared_parts.SharedPart.{SharedPart}
+use Rattle.archetype_store.specs.declared.slots.Held.{Held}
+use Rattle.archetype_store.specs.declared.store.ArchetypeStore.TheInside.{Inside}
+use Rattle.archetype_store.specs.Holding.{parts_of, ids_of, Backs}
+use Rattle.archetype_store.specs.Slots.{slot_at, AreFree, AreOrdered, ArePlaced, numbers_of, of_slots}
+use Rattle.archetype_store.specs.Stores.{Numbered, StoreState, types_at, shared_types}
+
+-- ---- what contracts see
+
+-- the block of a slot as contracts see it
+abbrev pub numbered : List Interned → ℕ → Held → Numbered
+numbered table n h = record { number = n; archetype = h.archetype; shared = parts_of table h.shared.items; block = h.block }
+
+-- the block of the number at a place of the order; none where the place is empty
+abbrev pub numbered_at : List (Option Held) → List Interned → Option ℕ → Option Numbered
+numbered_at slots table at = option_and_then (λ n. option_map (numbered table n) (slot_at slots n)) at
+
+abbrev pub blocks_in : List (Option Held) → List Interned → List (Option ℕ) → List Numbered
+blocks_in slots table order = filter_map (numbered_at slots table) order
+
+-- the places of the order that are taken
+abbrev pub ranks_from : ℕ → List (Option ℕ) → List ℕ
+ranks_from k [] = []
+ranks_from k (None ∷ os) = ranks_from (k + 1) os
+ranks_from k (Some n ∷ os) = k ∷ ranks_from (k + 1) os
+
+abbrev pub view_of : Inside → StoreState
+view_of s = record {
+  registry = s.registry;
+  archetypes = s.archetypes.items;
+  blocks = blocks_in s.slots.items s.shared s.order.items;
+  ranks = ranks_from 0 s.order.items;
+}
+
+-- ---- what always holds
+
+-- what calls that write into a block leave as it is
+pub record Beside : Type 0 where
+  pub archetype : ℕ
+  pub shared : List SharedPart
+  pub rank : ℕ
+  pub types : List ℕ
+  pub capacity : ℕ
+  pub shapes : List TypeShape
+
+abbrev pub beside : Held → Beside
+beside h = record {
+  archetype = h.archetype;
+  shared = h.shared.items;
+  rank = h.rank;
+  types = h.block.types;
+  capacity = h.block.capacity;
+  shapes = map (λ x. x.shape) h.block.columns;
+}
+
+abbrev pub kept : List (Option Held) → List (Option Beside)
+kept slots = map (option_map beside) slots
+
+-- the ids that the blocks hold
+abbrev pub all_ids : List (Option Beside) → List ℕ
+all_ids slots = of_slots (λ x. ids_of x.shared) slots
+
+-- a block is of its archetype
+pub record IsOfArchetype (registry : List TypeInfo) (archetypes : List (List ℕ)) (x : Beside) : Type 0 where
+  pub there : x.archetype < length archetypes
+  pub types : x.types ≡ types_at archetypes x.archetype
+  pub capacity : x.capacity ≡ capacity registry (types_at archetypes x.archetype)
+  pub shapes : x.shapes ≡ map (λ t. t.shape) (new_types registry (types_at archetypes x.archetype))
+  pub shared : map (λ p. p.ty.0) x.shared ≡ shared_types registry (types_at archetypes x.archetype)
+
+abbrev pub AreOfArchetypes : List TypeInfo → List (List ℕ) → List (Option Beside) → Type 0
+AreOfArchetypes registry archetypes slots = (n : ℕ) (x : Beside) → slot_at slots n ≡ Some x → IsOfArchetype registry archetypes x
+
+-- the numbers of the blocks of an archetype, in block order
+abbrev pub members_of : List (Option Beside) → ℕ → List (Option ℕ) → List ℕ
+members_of slots a order = numbers_of (λ x. nat_eq x.archetype a) slots order
+
+-- no two lists of types are equal
+abbrev pub AreApart : List (List ℕ) → Type 0
+AreApart archetypes = (a b : ℕ) → a < length archetypes → b < length archetypes → types_at archetypes a ≡ types_at archetypes b → a ≡ b
+
+abbrev pub members_at : List (List ℕ) → ℕ → List ℕ
+members_at members a = slice_index_or members a []
+
+pub record IsOrderly (registry : Option (List TypeInfo)) (archetypes members : List (List ℕ)) (slots : List (Option Beside)) (free : List ℕ) (room : ℕ)
+    (order : List (Option ℕ)) (table : List Interned) : Type 0 where
+  pub are_free : AreFree slots free
+  pub counted : length free + count_by is_some slots ≡ length slots
+  pub free_room : length slots ≤ room
+  pub few : length slots ≤ MOST_NUMBERS
+  pub ordered : AreOrdered (λ x. x.rank) slots order
+  pub placed : ArePlaced (λ x. x.rank) slots order
+  pub order_counted : count_by is_some order ≡ count_by is_some slots
+  pub of_archetypes : AreOfArchetypes (unwrap_or registry []) archetypes slots
+  pub members_there : length members ≡ length archetypes
+  pub members_are : (a : ℕ) → a < length archetypes → members_at members a ≡ members_of slots a order
+  pub backs : Backs table (all_ids slots)
+  pub registered : registry ≡ None → archetypes ≡ []
+  pub most : length archetypes ≤ MOST_NUMBERS
+  -- no two archetypes have the same types
+  pub distinct : AreApart archetypes
+  -- a block of each archetype has room for a row
+  pub fit : (a : ℕ) → a < length archetypes → 0 < capacity (unwrap_or registry []) (types_at archetypes a)
+
+abbrev pub IsConsistent : Inside → Type 0
+IsConsistent s =
+    IsOrderly s.registry s.archetypes.items (map (λ v. v.items) s.members.items) (kept s.slots.items) s.free.items (vec_capacity s.free) s.order.items s.shared
+
+-- ---- room for a row
+
+-- the block of a slot has room and these shared values
+abbrev pub open_of : List Interned → List (PartOf Value) → Option Held → Bool
+open_of table parts None = false
+open_of table parts (Some h) = nat_lt (length h.block.rows) h.block.capacity && pointwise same_part parts (parts_of table h.shared.items)
+
+abbrev pub is_open : List (Option Held) → List Interned → List (PartOf Value) → ℕ → Bool
+is_open slots table parts n = open_of table parts (slot_at slots n)
+
+-- each of the numbers has a block
+abbrev pub AreUsed : List (Option Held) → List ℕ → Type 0
+AreUsed slots [] = Unit {0}
+AreUsed slots (n ∷ ns) = IsSome (slot_at slots n) × AreUsed slots ns

@@ -1,0 +1,115 @@
+//! What a store keeps for each block, by the block's number.
+ghost use Rattle.std.specs.Prelude.{◌≡◌, ℕ, List, ◌<◌, ◌&&◌, nat_lt, [], length, map, find, unwrap_or, Some, IsSome, IfOk, OnErr};
+ghost use Rattle.world_model.specs.World.{capacity};
+ghost use Rattle.chunk_block.specs.Blocks.{new_block as block_of};
+ghost use Rattle.std.specs.Cmp.Lexicographic.{pointwise};
+ghost use Rattle.world_model.specs.Part.{part_of as seen_part, same_part};
+ghost use Rattle.archetype_store.specs.Slots.{slot_at};
+ghost use Rattle.archetype_store.specs.Holding.{Backs, Holds, ids_of, parts_of};
+ghost use Rattle.archetype_store.specs.Inside.{AreUsed, all_ids, is_open, kept};
+
+use crate::shared_parts::{SharedPart, are_values, hold_all};
+use chunk_block::{Block, BlockFault};
+use ent_types::{Memory, Part, Registry, TypeSet};
+use shared_values::SharedTable;
+use std::alloc::Global;
+
+/// A block with what its store keeps beside it.
+#[derive(Drop)]
+pub(crate) struct Held {
+    pub(crate) block: Block,
+    pub(crate) archetype: u32,
+    pub(crate) shared: Vec<SharedPart>,
+    /// The place in block order.
+    pub(crate) rank: usize,
+}
+
+/// Returns the block of a number.
+pub(crate) fn held_at(slots: &[Option<Held>], number: u32) -> &Held
+    requires { IsSome (slot_at slots.now number) }
+    ensures { slot_at slots.now number ≡ Some result.now }
+{
+    match &slots[number as usize] {
+        Some(held) => held,
+        None => unreachable!(),
+    }
+}
+
+/// `true` if a block has room for a row, and these values of its shared types.
+fn has_room(table: &SharedTable, held: &Held, parts: &[Part]) -> bool
+    requires { Backs table.now (ids_of held.now.shared.items) }
+    ensures { result ≡ (nat_lt (length held.now.block.rows) held.now.block.capacity && pointwise same_part (map seen_part parts.now) (parts_of table.now held.now.shared.items)) }
+{
+    if held.block.len() < held.block.capacity() {
+        are_values(table, &held.shared, parts)
+    } else {
+        false
+    }
+}
+
+/// Returns the first of some numbers whose block has room, and these values of its shared types.
+pub(crate) fn first_open(
+    slots: &[Option<Held>],
+    table: &SharedTable,
+    numbers: &[u32],
+    parts: &[Part],
+) -> Option<u32>
+    requires used { AreUsed slots.now numbers.now }
+    requires backs { Backs table.now (all_ids (kept slots.now)) }
+    ensures { result ≡ find (is_open slots.now table.now (map seen_part parts.now)) numbers.now }
+{
+    match numbers.split_first() {
+        None => None,
+        Some((number, rest)) => {
+            if has_room(table, held_at(slots, *number), parts) {
+                Some(*number)
+            } else {
+                first_open(slots, table, rest, parts)
+            }
+        }
+    }
+}
+
+/// Returns a block of some types, of which a block has room for a row.
+fn new_block(alloc: Global, registry: &Registry, types: &TypeSet) -> Result<Block, Memory>
+    requires { 0 < capacity registry.now types.now }
+    ensures { IfOk result (λ b. b ≡ block_of registry.now types.now (capacity registry.now types.now)) }
+{
+    match Block::new(alloc, registry, types) {
+        Ok(block) => Ok(block),
+        Err(BlockFault::Memory) => Err(Memory),
+        Err(BlockFault::TooLarge) => unreachable!(),
+    }
+}
+
+/// Returns a new block of some types, and holds its shared values. After `Memory` nothing more is held than before.
+pub(crate) fn new_held(
+    alloc: Global,
+    registry: &Option<Registry>,
+    types: &TypeSet,
+    table: &mut SharedTable,
+    archetype: u32,
+    rank: usize,
+    parts: &[Part],
+) -> Result<Held, Memory>
+    requires fit { 0 < capacity (unwrap_or registry.now []) types.now }
+    requires registered { IsSome registry.now }
+    ensures block { IfOk result (λ h. h.block ≡ block_of (unwrap_or registry.now []) types.now (capacity (unwrap_or registry.now []) types.now)) }
+    ensures archetype { IfOk result (λ h. h.archetype ≡ archetype) }
+    ensures rank { IfOk result (λ h. h.rank ≡ rank) }
+    ensures parts { IfOk result (λ h. parts_of table.new h.shared.items ≡ map seen_part parts.now) }
+    ensures held { IfOk result (λ h. (others : List ℕ) → Backs table.old others → Holds table.old table.new [] h.shared.items others) }
+    ensures err { OnErr result ((others : List ℕ) → Backs table.old others → Holds table.old table.new [] [] others) }
+{
+    let block = match registry {
+        None => unreachable!(),
+        Some(registry) => new_block(alloc, registry, types)?,
+    };
+    let shared = hold_all(alloc, table, parts)?;
+    Ok(Held {
+        block,
+        archetype,
+        shared,
+        rank,
+    })
+}

@@ -1,0 +1,362 @@
+//! The store.
+ghost use Rattle.std.specs.Prelude.{◌≡◌, ℕ, ⊤, ◌<◌, ◌≤◌, ◌++◌, ◌∷◌, [], length, map, not, slice_get, slice_set, fold, option_map, IfOk, OnOk, OnErr, MatchResult, None, Some, OnSome, IfSome, IfNone, IfErr, true, false, nat_eq, vec_capacity};
+ghost use Rattle.std.specs.Cmp.Lexicographic.{pointwise};
+ghost use Rattle.chunk_block.specs.declared.block.BlockFault.TheVariants as fault;
+ghost use Rattle.std.specs.List.{flat_map, list_any};
+ghost use Rattle.ent_types.specs.declared.limits.TheConstants.{MOST_BLOCK_ROWS};
+ghost use Rattle.world_model.specs.Part.{part_of as seen_part, part_type};
+ghost use Rattle.world_model.specs.World.{capacity};
+ghost use Rattle.block_columns.specs.Types.{with_value, with_off, with_values, TakesValue, TakesElements, IsEnableable};
+ghost use Rattle.buffer_store.specs.Buffers.{buffer};
+ghost use Rattle.chunk_block.specs.Blocks.{BlockState, LoanState, IsWhole, IsLoanOf, AreHeld, OfType, changed, content_at, given_rows, given_type, new_block, lent_piece, lent_row, lent_type, new_row, row_in, with_mark};
+ghost use Rattle.archetype_store.specs.declared.numbers.TheConstants.{MOST_NUMBERS as most_numbers};
+ghost use Rattle.archetype_store.specs.Stores.{StoreState, OfNumber, OfBlock, with_block_in, Adds, Finds, LacksTypes, Opens, IsFirstWithRoom, is_full, types_at, shared_types, registry_of};
+
+use crate::numbers::{MOST_NUMBERS, put, take_room};
+use crate::slots::{Held, first_open, held_at, new_held};
+use buffer_store::Elements;
+use chunk_block::{Block, BlockFault, Loan};
+use ent_types::{Entity, Memory, Part, Registry, SystemVersion, TypeId, TypeSet, Value};
+use shared_values::SharedTable;
+use std::alloc::Global;
+use std::marker::Model;
+
+/// The id of an archetype. It is the archetype's place in the order in which the archetypes were made.
+#[derive(Clone, Copy, Debug, PartialEq, Eq)]
+pub struct ArchetypeId(pub(crate) u32);
+
+impl Model for ArchetypeId {
+    ghost use Rattle.std.specs.Prelude.{ℕ};
+    ghost use Rattle.std.specs.Coded.{coded_ℕ};
+
+    ghost Value = { ℕ };
+
+    ghost coded = { coded_ℕ };
+
+    ghost view = { λ id. id.0 };
+
+    ghost inverse = { λ n. record { 0 = n } };
+}
+
+/// Blocks of many archetypes, in block order.
+#[derive(Drop)]
+pub struct ArchetypeStore {
+    registry: Option<Registry>,
+    archetypes: Vec<TypeSet>,
+    members: Vec<Vec<u32>>,
+    slots: Vec<Option<Held>>,
+    free: Vec<u32>,
+    order: Vec<Option<u32>>,
+    shared: SharedTable,
+}
+
+impl Model for ArchetypeStore {
+    ghost use Rattle.archetype_store.specs.Stores.{StoreState};
+
+    ghost Value = { StoreState };
+
+    ghost use Rattle.archetype_store.specs.Inside.{view_of, IsConsistent};
+
+    ghost view = { view_of };
+
+    ghost invariant = { IsConsistent };
+}
+
+impl ArchetypeStore {
+    /// Returns the store without a block. It takes no memory.
+    pub fn new(alloc: Global) -> ArchetypeStore
+        ensures { result ≡ record { registry = None; archetypes = []; blocks = []; ranks = [] } }
+    {
+        ArchetypeStore {
+            registry: None,
+            archetypes: Vec::new(alloc),
+            members: Vec::new(alloc),
+            slots: Vec::new(alloc),
+            free: Vec::new(alloc),
+            order: Vec::new(alloc),
+            shared: SharedTable::new(alloc),
+        }
+    }
+
+    /// Returns a block.
+    pub fn block(&self, number: u32) -> &Block
+        requires { OfBlock number (λ _. ⊤) self.now.blocks }
+        ensures { OfBlock number (λ b. result.now ≡ b) self.now.blocks }
+    {
+        &held_at(&self.slots, number).block
+    }
+
+    /// Adds a row for an entity to a block that has room.
+    pub fn push_row(&mut self, number: u32, e: Entity) -> u32
+        requires { OfBlock number (λ b. (length b.rows < b.capacity) × IsWhole b.columns) self.old.blocks }
+        ensures place { OfBlock number (λ b. result ≡ length b.rows) self.old.blocks }
+        ensures store { self.new ≡ with_block_in number (λ b. record b { rows = b.rows ++ new_row b.columns e ∷ [] }) self.old }
+    {
+        match &mut self.slots[number as usize] {
+            Some(held) => held.block.push_row(e),
+            None => unreachable!(),
+        }
+    }
+
+    /// Replaces the entity of a row.
+    pub fn put_entity(&mut self, number: u32, row: u32, e: Entity)
+        requires { OfBlock number (λ b. row < length b.rows) self.old.blocks }
+        ensures { self.new ≡ with_block_in number (λ b. record b { rows = slice_set b.rows row (record (row_in row b.rows) { entity = e }) }) self.old }
+    {
+        match &mut self.slots[number as usize] {
+            Some(held) => held.block.put_entity(row, e),
+            None => unreachable!(),
+        }
+    }
+
+    /// Says whether a row is dying.
+    pub fn set_dying(&mut self, number: u32, row: u32, on: bool)
+        requires { OfBlock number (λ b. row < length b.rows) self.old.blocks }
+        ensures { self.new ≡ with_block_in number (λ b. record b { rows = slice_set b.rows row (record (row_in row b.rows) { dying = on }) }) self.old }
+    {
+        match &mut self.slots[number as usize] {
+            Some(held) => held.block.set_dying(row, on),
+            None => unreachable!(),
+        }
+    }
+
+    /// Writes a value that fits into a row of a field of a type.
+    pub fn field_set(&mut self, number: u32, row: u32, ty: TypeId, field: u8, value: Value)
+        requires { OfBlock number (λ b. (row < length b.rows) × OfType ty.0 (TakesValue field value) b.columns) self.old.blocks }
+        ensures { self.new ≡ with_block_in number (λ b. record b { rows = slice_set b.rows row (changed ty.0 (with_value field value) (row_in row b.rows)) }) self.old }
+    {
+        match &mut self.slots[number as usize] {
+            Some(held) => held.block.field_set(row, ty, field, value),
+            None => unreachable!(),
+        }
+    }
+
+    /// Enables or disables a type in a row.
+    pub fn set_enabled(&mut self, number: u32, row: u32, ty: TypeId, on: bool)
+        requires { OfBlock number (λ b. (row < length b.rows) × OfType ty.0 IsEnableable b.columns) self.old.blocks }
+        ensures { self.new ≡ with_block_in number (λ b. record b { rows = slice_set b.rows row (changed ty.0 (with_off (not on)) (row_in row b.rows)) }) self.old }
+    {
+        match &mut self.slots[number as usize] {
+            Some(held) => held.block.set_enabled(row, ty, on),
+            None => unreachable!(),
+        }
+    }
+
+    /// Marks a type with a version.
+    pub fn mark(&mut self, number: u32, ty: TypeId, version: SystemVersion)
+        requires { OfBlock number (λ b. ⊤) self.old.blocks }
+        ensures { self.new ≡ with_block_in number (λ b. record b { marks = with_mark ty.0 version.0 b.marks }) self.old }
+    {
+        match &mut self.slots[number as usize] {
+            Some(held) => held.block.mark(ty, version),
+            None => unreachable!(),
+        }
+    }
+
+    /// Marks the order of the rows with a version.
+    pub fn mark_order(&mut self, number: u32, version: SystemVersion)
+        requires { OfBlock number (λ b. ⊤) self.old.blocks }
+        ensures { self.new ≡ with_block_in number (λ b. record b { order = version.0 }) self.old }
+    {
+        match &mut self.slots[number as usize] {
+            Some(held) => held.block.mark_order(version),
+            None => unreachable!(),
+        }
+    }
+
+    /// Replaces the elements of a row of a buffer type, and returns the old ones.
+    pub fn put_elements(
+        &mut self,
+        number: u32,
+        row: u32,
+        ty: TypeId,
+        new: Elements<Value>,
+    ) -> Elements<Value>
+        requires { OfBlock number (λ b. (row < length b.rows) × OfType ty.0 (TakesElements new) b.columns) self.old.blocks }
+        ensures old { OfBlock number (λ b. OfType ty.0 (λ shape. result ≡ buffer (length shape.kinds) (content_at ty.0 (row_in row b.rows).cells).values) b.columns) self.old.blocks }
+        ensures new { self.new ≡ with_block_in number (λ b. record b { rows = slice_set b.rows row (changed ty.0 (with_values new.values) (row_in row b.rows)) }) self.old }
+    {
+        match &mut self.slots[number as usize] {
+            Some(held) => held.block.put_elements(row, ty, new),
+            None => unreachable!(),
+        }
+    }
+
+    /// Lends the columns and bits of some types of a block. The loan reports the block's number. It takes no memory.
+    pub fn lend(&mut self, number: u32, types: &TypeSet) -> Loan
+        requires { OfBlock number (λ b. AreHeld types.now b.columns) self.old.blocks }
+        ensures store { self.new ≡ with_block_in number (λ b. record b { columns = map (lent_type types.now) b.columns; rows = map (lent_row types.now) b.rows }) self.old }
+        ensures loan { OfBlock number (λ b. result ≡ record { number = number; types = types.now; pieces = flat_map (lent_piece types.now b.capacity b.rows) b.columns }) self.old.blocks }
+        ensures own { OfBlock number (λ b. IsLoanOf b result) self.new.blocks }
+        ensures others { (other : LoanState) → OfBlock number (λ b. IsLoanOf b other) self.old.blocks → OfBlock number (λ b. IsLoanOf b other) self.new.blocks }
+    {
+        match &mut self.slots[number as usize] {
+            Some(held) => held.block.lend(number, types),
+            None => unreachable!(),
+        }
+    }
+
+    /// Takes back what a block lent. Loans may come back in any order. It takes no memory.
+    pub fn give_back(&mut self, number: u32, loan: Loan)
+        requires { OfBlock number (λ b. IsLoanOf b loan) self.old.blocks }
+        ensures store { self.new ≡ with_block_in number (λ b. record b { columns = fold given_type b.columns loan.pieces; rows = fold given_rows b.rows loan.pieces }) self.old }
+        ensures others { (other : LoanState) → OfBlock number (λ b. IsLoanOf b other) self.old.blocks → OfBlock number (λ b. IsLoanOf b other) self.new.blocks }
+    {
+        match &mut self.slots[number as usize] {
+            Some(held) => held.block.give_back(loan),
+            None => unreachable!(),
+        }
+    }
+
+    /// Returns the block into which a row with these shared values enters: the first in block order that is of the archetype, has
+    /// these values, and has room. If there is none, a new block without rows is made, which is the last. After `Memory` all is as
+    /// before.
+    pub fn place_for(&mut self, a: ArchetypeId, shared: &[Part]) -> Result<u32, Memory>
+        requires there { a < length self.old.archetypes }
+        requires parts { map (λ p. part_type (seen_part p)) shared.now ≡ shared_types (registry_of self.old) (types_at self.old.archetypes a) }
+        requires few { length self.old.blocks < most_numbers }
+        ensures ok { IfOk result (Opens self.old self.new a (map seen_part shared.now)) }
+        ensures err { OnErr result (self.new ≡ self.old) }
+    {
+        match self.open_block(a, shared) {
+            Some(number) => Ok(number),
+            None => self.add_block(a, shared),
+        }
+    }
+
+    /// Returns the first block that has room for a row with these shared values.
+    fn open_block(&self, a: ArchetypeId, shared: &[Part]) -> Option<u32>
+        requires { a < length self.now.archetypes }
+        ensures some { IfSome result (λ n. IsFirstWithRoom a (map seen_part shared.now) n self.now.blocks) }
+        ensures none { IfNone result (is_full a (map seen_part shared.now) self.now.blocks ≡ true) }
+    {
+        first_open(
+            &self.slots,
+            &self.shared,
+            &self.members[a.0 as usize],
+            shared,
+        )
+    }
+
+    /// Adds a block without rows at the end.
+    fn add_block(&mut self, a: ArchetypeId, shared: &[Part]) -> Result<u32, Memory>
+        requires there { a < length self.old.archetypes }
+        requires parts { map (λ p. part_type (seen_part p)) shared.now ≡ shared_types (registry_of self.old) (types_at self.old.archetypes a) }
+        requires few { length self.old.blocks < most_numbers }
+        ensures ok { IfOk result (Adds self.old self.new a (map seen_part shared.now)) }
+        ensures err { OnErr result (self.new ≡ self.old) }
+    {
+        let at = a.0 as usize;
+        take_room(
+            &mut self.slots,
+            &mut self.free,
+            &mut self.order,
+            &mut self.members[at],
+        )?;
+        let types = &self.archetypes[at];
+        let rank = self.order.len();
+        let alloc = *self.order.allocator();
+        let held = new_held(
+            alloc,
+            &self.registry,
+            types,
+            &mut self.shared,
+            a.0,
+            rank,
+            shared,
+        )?;
+        let number = put(&mut self.slots, &mut self.free, held);
+        self.order.push_reserved(Some(number));
+        self.members[at].push_reserved(number);
+        Ok(number)
+    }
+
+    /// Returns the archetype with some types, and makes it if there is none. The registry is that of each earlier call. `TooLarge`
+    /// is returned if and only if no row of these types fits into a block.
+    pub fn archetype_of(
+        &mut self,
+        registry: &Registry,
+        types: &TypeSet,
+    ) -> Result<ArchetypeId, BlockFault>
+        requires { IfSome self.old.registry (λ r. r ≡ registry.now) }
+        ensures ok { IfOk result (Finds self.old self.new registry.now types.now) }
+        ensures fault { IfErr result (λ f. f ≡ fault.TooLarge → capacity registry.now types.now ≡ 0) }
+        ensures err { OnErr result (self.new ≡ self.old) }
+    {
+        match find_types(&self.archetypes, types) {
+            Some(a) => Ok(ArchetypeId(a as u32)),
+            None => self.add_archetype(registry, types),
+        }
+    }
+
+    /// Makes an archetype.
+    fn add_archetype(
+        &mut self,
+        registry: &Registry,
+        types: &TypeSet,
+    ) -> Result<ArchetypeId, BlockFault>
+        requires same { IfSome self.old.registry (λ r. r ≡ registry.now) }
+        requires new { LacksTypes types.now self.old.archetypes }
+        ensures ok { IfOk result (Finds self.old self.new registry.now types.now) }
+        ensures fault { IfErr result (λ f. f ≡ fault.TooLarge → capacity registry.now types.now ≡ 0) }
+        ensures err { OnErr result (self.new ≡ self.old) }
+    {
+        let alloc = *self.order.allocator();
+        let a = self.archetypes.len();
+        if a >= MOST_NUMBERS as usize {
+            return Err(BlockFault::Memory);
+        }
+        has_room(alloc, registry, types)?;
+        reserve_both(&mut self.archetypes, &mut self.members)?;
+        remember(alloc, &mut self.registry, registry)?;
+        self.archetypes.push_reserved(*types);
+        self.members.push_reserved(Vec::new(alloc));
+        Ok(ArchetypeId(a as u32))
+    }
+}
+
+/// Returns the place of some types.
+fn find_types(archetypes: &[TypeSet], types: &TypeSet) -> Option<usize>
+    ensures some { IfSome result (λ a. (a < length archetypes.now) × (types_at archetypes.now a ≡ types.now)) }
+    ensures none { IfNone result (LacksTypes types.now archetypes.now) }
+{
+    archetypes.iter().position(|ts| ts == types)
+}
+
+/// Tests whether a row of some types fits into a block.
+fn has_room(alloc: Global, registry: &Registry, types: &TypeSet) -> Result<(), BlockFault>
+    ensures ok { OnOk result (0 < capacity registry.now types.now) }
+    ensures fault { IfErr result (λ f. f ≡ fault.TooLarge → capacity registry.now types.now ≡ 0) }
+{
+    match Block::new(alloc, registry, types) {
+        Ok(_) => Ok(()),
+        Err(fault) => Err(fault),
+    }
+}
+
+/// Takes the memory for one more archetype.
+fn reserve_both(archetypes: &mut Vec<TypeSet>, members: &mut Vec<Vec<u32>>) -> Result<(), Memory>
+    ensures archetypes_stay { archetypes.new.items ≡ archetypes.old.items }
+    ensures members_stay { members.new.items ≡ members.old.items }
+    ensures archetypes_room { OnOk result (length archetypes.new.items < vec_capacity archetypes.new) }
+    ensures members_room { OnOk result (length members.new.items < vec_capacity members.new) }
+{
+    archetypes.reserve(1)?;
+    members.reserve(1)?;
+    Ok(())
+}
+
+/// Keeps a copy of the registry, if none is there.
+fn remember(alloc: Global, kept: &mut Option<Registry>, registry: &Registry) -> Result<(), Memory>
+    requires { IfSome kept.old (λ r. r ≡ registry.now) }
+    ensures ok { OnOk result (kept.new ≡ Some registry.now) }
+    ensures err { OnErr result (kept.new ≡ kept.old) }
+{
+    match kept {
+        Some(_) => Ok(()),
+        None => {
+            *kept = Some(registry.copy(alloc)?);
+            Ok(())
+        }
+    }
+}
