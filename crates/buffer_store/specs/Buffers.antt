@@ -1,5 +1,6 @@
 -- What contracts see of the elements of a buffer.
 use Rattle.std.specs.Prelude.{ℕ, ◌+◌, ◌*◌, ◌/◌, ◌≤◌, ◌≡◌, List, length, refl}
+use Rattle.buffer_store.specs.declared.elements.TheConstants.{MOST_WIDTH}
 use Rattle.std.specs.Coded.{Coded, code_by, coded×, coded_list, coded_ℕ}
 
 -- how many values an element has, and the values of all elements, one element after another
@@ -22,9 +23,9 @@ module _ {T : Type 0} where
   abbrev pub place_of : Buffer T → ℕ → ℕ → ℕ
   place_of b element field = element * b.width + field
 
--- The values are those of whole elements, of which there are at most `limit`. An element has 1 to 8 values.
+-- The values are those of whole elements, of which there are at most `limit`. An element has 1 to MOST_WIDTH values.
 pub record IsWhole (width count limit size : ℕ) : Type 0 where
   pub some : 1 ≤ width
-  pub narrow : width ≤ 8
+  pub narrow : width ≤ MOST_WIDTH
   pub few : count ≤ limit
   pub whole : size ≡ count * width

@@ -1,5 +1,5 @@
 //! The elements of one buffer.
-ghost use Rattle.std.specs.Prelude.{◌≡◌, ◌≤◌, ◌<◌, [], ◌++◌, length, slice_get, slice_set, Some, OnOk, OnErr, MatchResult};
+ghost use Rattle.std.specs.Prelude.{◌≡◌, ◌≤◌, ◌<◌, ◌*◌, ◌/◌, [], ◌++◌, length, slice_get, slice_set, Some, IfOk, OnOk, OnErr, MatchResult};
 ghost use Rattle.buffer_store.specs.Buffers.{buffer, count_of, place_of};
 ghost use Rattle.buffer_store.specs.declared.fault.PushFault.TheVariants as fault;
 
@@ -7,8 +7,11 @@ use crate::{Memory, PushFault};
 use std::alloc::Global;
 use std::marker::Model;
 
-/// The largest number of elements of a buffer.
-pub const MOST_ELEMENTS: u32 = 4096;
+/// The greatest number of elements of a buffer.
+pub const MOST_ELEMENTS: u32 = 4_096;
+
+/// The greatest number of values of an element.
+pub const MOST_WIDTH: u8 = 8;
 
 /// The elements of a buffer in one row, each of `width` values. Contracts see the width, and the values of all
 /// elements one after another.
@@ -23,6 +26,7 @@ pub struct Elements<T: Copy> {
 
 impl<T: Copy> Model for Elements<T> {
     ghost use Rattle.std.specs.Prelude.{length};
+    ghost use Rattle.buffer_store.specs.declared.elements.TheConstants.{MOST_ELEMENTS};
     ghost use Rattle.buffer_store.specs.Buffers.{Buffer, buffer, buffer_code, IsWhole};
 
     ghost Value = { Buffer T };
@@ -31,14 +35,14 @@ impl<T: Copy> Model for Elements<T> {
 
     ghost view = { λ e. buffer e.width e.values.items };
 
-    ghost invariant = { λ e. IsWhole e.width e.count 4096 (length e.values.items) };
+    ghost invariant = { λ e. IsWhole e.width e.count MOST_ELEMENTS (length e.values.items) };
 }
 
 impl<T: Copy> Elements<T> {
     /// Returns the empty list. It takes no memory until an element is pushed.
     pub fn new(alloc: Global, width: u8) -> Elements<T>
         requires some { 1 ≤ width }
-        requires narrow { width ≤ 8 }
+        requires narrow { width ≤ MOST_WIDTH }
         ensures { result ≡ buffer width [] }
     {
         Elements {
@@ -46,6 +50,28 @@ impl<T: Copy> Elements<T> {
             count: 0,
             values: Vec::new(alloc),
         }
+    }
+
+    /// Returns the elements with these values, one element after another.
+    pub fn from_slice(alloc: Global, width: u8, values: &[T]) -> Result<Elements<T>, Memory>
+        requires some { 1 ≤ width }
+        requires narrow { width ≤ MOST_WIDTH }
+        requires few { length values.now / width ≤ MOST_ELEMENTS }
+        requires whole { length values.now ≡ (length values.now / width) * width }
+        ensures { IfOk result (λ e. e ≡ buffer width values.now) }
+    {
+        Ok(Elements {
+            width,
+            count: (values.len() / usize::from(width)) as u32,
+            values: Vec::from_slice(alloc, values)?,
+        })
+    }
+
+    /// Returns the values of all elements, one element after another.
+    pub fn as_slice(&self) -> &[T]
+        ensures { result.now ≡ self.now.values }
+    {
+        &self.values
     }
 
     /// Returns the number of elements.

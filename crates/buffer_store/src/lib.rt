@@ -5,5 +5,5 @@
 mod elements;
 mod fault;
 
-pub use elements::{Elements, MOST_ELEMENTS};
+pub use elements::{Elements, MOST_ELEMENTS, MOST_WIDTH};
 pub use fault::{Memory, PushFault};

@@ -21,7 +21,7 @@ module _ (types : List TypeInfo) (info : TypeInfo) where
   too_wide wide = rw (lt-ltb 64 (length info.fields) wide) refl
 
   module _ (found : Option TypeId) (is : found ≡ type_id_named types info.name) (narrow : length info.fields ≤ 64) where
-    -- what the look-up tells of the name's number
+    -- what the look-up says of the name's number
     told : (b : Bool) → b ≡ is_some found → is_some (type_named types info.name) ≡ b
     told b h = sym (h ∙ ap is_some is ∙ is_some-type_id_named types info.name)
 

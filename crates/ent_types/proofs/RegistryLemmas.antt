@@ -1,4 +1,4 @@
--- What a registry's list of types and its list of names tell of each other.
+-- What follows from a registry's list of types for its list of names, and back.
 use Rattle.std.proofs.Common.{ℕ, ◌≡◌, ◌+◌, ◌<◌, ◌≤◌, List, [], ◌∷◌, ◌++◌, Bool, true, false, not, ◌&&◌, length, get_or, take, drop, refl, ap, sym, ◌∙◌, arith, add-one, true≢false, is_some, Option, Some, None}
 use Rattle.std.specs.Prelude.{position, option_map}
 use Rattle.std.specs.List.{list_any}

@@ -28,7 +28,7 @@ IsRisingFrom-ones_from at (suc count) n =
 pub IsRisingBelow-types_of : (words : List ℕ) → IsRisingBelow 256 (types_of words)
 IsRisingBelow-types_of words = IsRisingFrom-ones_from 0 256 (number_of words)
 
--- what stands at a place of a number
+-- the bit at a place of a number
 pub has_type-ones_from : (at count n i : ℕ) → i < count → has_type (ones_from at count n) (at + i) ≡ eqb (bit_at n i) 1
 unfolding ones_from
 has_type-ones_from at zero n i within = absurd (omega arith)

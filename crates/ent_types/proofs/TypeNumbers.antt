@@ -1,4 +1,4 @@
--- A registry's names and numbers tell each other.
+-- A registry's names and numbers determine each other.
 use Rattle.std.proofs.Common.{ℕ, ◌≡◌, ◌≢◌, ◌+◌, ◌<◌, ◌≤◌, List, [], ◌∷◌, Bool, true, false, not, ◌&&◌, zero, suc, length, get_or, refl, ap, sym, ◌∙◌, arith, true≢false, Option, Some, None, is_some}
 use Rattle.std.specs.Prelude.{position, Decides}
 use Rattle.std.specs.List.{list_any, position_or_len}

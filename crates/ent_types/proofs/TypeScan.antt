@@ -55,7 +55,7 @@ first_bit_left word from within below some =
 
 -- ---- word after word
 
--- no type from `from` on stands before the bit `lowest` of the word at `place`
+-- no type from `from` on is before the bit `lowest` of the word at `place`
 pub record Scanned (words : List ℕ) (from place lowest : ℕ) : Type 0 where
   pub within : lowest < 64
   pub reached : from ≤ 64 * place + lowest

@@ -35,7 +35,7 @@ fits_fields [] (v ∷ vs) = false
 fits_fields (f ∷ fs) [] = false
 fits_fields (f ∷ fs) (v ∷ vs) = fits_field f.kind v && fits_fields fs vs
 
--- whether these are the values of at most so many elements, one element after another
+-- whether these are the values of elements, one element after another, and of no more elements than this number
 unfoldable pub fits_elements : ℕ → List FieldInfo → List Value → Bool
 fits_elements most fields [] = true
 fits_elements zero fields (v ∷ vs) = false

@@ -14,7 +14,7 @@ refusal types info =
     else if nat_le MOST_TYPES (length types) then Some TooManyTypes
     else None
 
--- this fault is the one that is due; want of memory is due only where nothing else is
+-- this fault is the one that is due; Memory is due only if no other fault is
 abbrev pub IsDue : Option RegistryFault → RegistryFault → Type 0
 IsDue first TooWide = first ≡ Some TooWide
 IsDue first Duplicate = first ≡ Some Duplicate

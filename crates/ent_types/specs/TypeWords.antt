@@ -27,7 +27,7 @@ abbrev pub number_with : List ℕ → ℕ
 number_with [] = 0
 number_with (x ∷ xs) = 2 ^ x + number_with xs
 
--- so many words of the number, the lowest first
+-- this many words of the number, the lowest first
 abbrev pub words_from : ℕ → ℕ → List ℕ
 words_from zero n = []
 words_from (suc count) n = n % 2 ^ 64 ∷ words_from count (n / 2 ^ 64)

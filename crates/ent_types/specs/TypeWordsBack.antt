@@ -8,7 +8,7 @@ use Rattle.std.proofs.lemmas.Slice.Eq.{bytes_eq-Decides}
 use Rattle.std.specs.Cmp.Lexicographic.{pointwise}
 use Rattle.ent_types.specs.TypeWords.{ones_from, number_of, types_of, number_with, words_from, words_of, IsWords}
 
--- one binary digit: what stands above it counts double
+-- one binary digit: what is above it counts double
 digit_step : (p h rest : ℕ) → rest ≡ h * (2 * p) → p + rest ≡ (2 * h + 1) * p
 digit_step p h rest r = grind arith
 

@@ -40,6 +40,12 @@ pub const MOST_BLOCK_ROWS: u32 = 128;
 /// The greatest number of moments of a run. It is far below 2^31, so wrapped versions still compare as moments do.
 pub const MOST_MOMENTS: u32 = system_version::MOST_MOMENTS;
 
+/// The last system version. The version after it is 1.
+pub const LAST_SYSTEM_VERSION: u32 = system_version::LAST_VERSION;
+
+/// The last version of an entity. An index that is freed with it is never given again.
+pub const LAST_ENTITY_VERSION: u32 = u32::MAX;
+
 /// The greatest number of workers that run a phase.
 pub const MOST_WORKERS: u32 = 64;
 

@@ -100,21 +100,21 @@ impl fmt::Debug for Name {
     }
 }
 
-/// Says whether a byte may begin a name.
+/// `true` if a byte may begin a name.
 fn is_start(byte: u8) -> bool
     ensures { result ≡ is_name_start byte }
 {
     byte.is_ascii_alphabetic() || byte == b'_'
 }
 
-/// Says whether a byte may stand in a name.
+/// `true` if a byte is allowed in a name.
 fn is_inner(byte: u8) -> bool
     ensures { result ≡ is_name_byte byte }
 {
     byte.is_ascii_alphanumeric() || byte == b'_'
 }
 
-/// Says whether each byte may stand in a name.
+/// `true` if each byte is allowed in a name.
 fn are_inner(bytes: &[u8]) -> bool
     ensures { result ≡ list_all is_name_byte bytes.now }
 {

@@ -63,7 +63,7 @@ impl<T> Sequence<T> {
         self.items.len()
     }
 
-    /// Says whether there is no element.
+    /// `true` if there is no element.
     pub fn is_empty(&self) -> bool
         ensures { IsTrue result ↔ (self.now ≡ []) }
     {

@@ -1,4 +1,4 @@
-//! A count of steps that stands in contracts alone.
+//! A count of steps that exists only in contracts.
 ghost use Rattle.std.specs.Prelude.{◌≡◌, ◌+◌};
 
 use std::marker::Model;
@@ -6,7 +6,7 @@ use std::sync::ledger::{Blank, Book, Ledger, Share};
 
 /// How many steps were taken. It takes no bytes at run time, and only `tick` changes it.
 ///
-/// What a step is stands at each call that ticks. A caller that counts nothing calls a function that is given
+/// Each call that ticks says what a step is. A caller that counts nothing calls a function that is given
 /// `Blank::new(1)` and makes its `Steps` from it.
 #[derive(Drop)]
 pub struct Steps<L: Ledger> {
@@ -25,7 +25,7 @@ impl<L: Ledger> Model for Steps<L> {
 }
 
 impl<L: Ledger> Steps<L> {
-    /// A count that stands at 0.
+    /// A count of 0 steps.
     pub fn new(blank: Blank) -> Steps<L>
         requires name { blank.name ≡ L.name }
         requires parts { blank.parts ≡ L.parts }

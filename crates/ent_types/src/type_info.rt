@@ -118,7 +118,7 @@ fn total_size(fields: &[FieldInfo]) -> u32
     total
 }
 
-/// Says whether no two fields have one name.
+/// `true` if no two fields have one name.
 fn are_distinct(fields: &[FieldInfo]) -> bool
     ensures { result ≡ are_distinct (field_names_of fields.now) }
 {
@@ -138,7 +138,7 @@ fn place_of(fields: &[FieldInfo], name: &Name) -> Option<usize>
     fields.iter().position(|f| *name == f.name)
 }
 
-/// Says whether a field has the name.
+/// `true` if a field has the name.
 fn has_name(fields: &[FieldInfo], name: &Name) -> bool
     ensures { result ≡ list_any (λ f. same_name name.now f.name) fields.now }
 {

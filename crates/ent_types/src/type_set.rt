@@ -43,7 +43,7 @@ impl Model for TypeSet {
     ghost inverse_ok = { λ s holds. Prim.rw (words_of-types_of s.words holds) refl };
 }
 
-/// Says whether each bit of each word is also in the other word at its place.
+/// `true` if each bit of each word is also in the other word at its place.
 fn are_covered(words: &[u64], others: &[u64]) -> bool
     ensures { result ≡ list_all (λ pair. bit_and pair.0 (bit_not w64 pair.1) == 0) (zip words.now others.now) }
 {
@@ -53,7 +53,7 @@ fn are_covered(words: &[u64], others: &[u64]) -> bool
         .all(|(word, other)| word & !other == 0)
 }
 
-/// Says whether some bit is in both words at one place.
+/// `true` if some bit is in both words at one place.
 fn share_a_bit(words: &[u64], others: &[u64]) -> bool
     ensures { result ≡ list_any (λ pair. not (bit_and pair.0 pair.1 == 0)) (zip words.now others.now) }
 {
@@ -144,7 +144,7 @@ impl TypeSet {
         TypeSet { words }
     }
 
-    /// Says whether the type is in the set.
+    /// `true` if the type is in the set.
     pub fn has(&self, ty: TypeId) -> bool
         requires { ty.0 < MOST_TYPES }
         ensures value { result ≡ has_type self.now ty.0 }
@@ -153,7 +153,7 @@ impl TypeSet {
         self.words[usize::from(ty.0 / 64)] >> (ty.0 % 64) & 1 == 1
     }
 
-    /// Says whether each type of this set is in the other.
+    /// `true` if each type of this set is in the other.
     pub fn is_subset(&self, other: &TypeSet) -> bool
         ensures value { result ≡ is_subset_of self.now other.now }
         ensures each { IsTrue result ↔ ((ty : ℕ) → IsTrue (has_type self.now ty) → IsTrue (has_type other.now ty)) }
@@ -162,7 +162,7 @@ impl TypeSet {
         are_covered(&self.words, &other.words)
     }
 
-    /// Says whether some type is in both sets.
+    /// `true` if some type is in both sets.
     pub fn meets(&self, other: &TypeSet) -> bool
         ensures value { result ≡ meets self.now other.now }
         ensures some { IsTrue result ↔ ((ty : ℕ) × IsTrue (has_type self.now ty) × IsTrue (has_type other.now ty)) }
@@ -180,7 +180,7 @@ impl TypeSet {
         count_bits(&self.words)
     }
 
-    /// Says whether no type is in the set.
+    /// `true` if no type is in the set.
     pub fn is_empty(&self) -> bool
         ensures { IsTrue result ↔ (self.now ≡ []) }
     {

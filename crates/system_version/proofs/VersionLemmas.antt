@@ -46,7 +46,7 @@ int_wrap-difference change required within =
 is_positive : (n : ℕ) → n < 2 ^ 32 → Decides (int_lt (pos 0) (cast_signed w32 n)) ((0 < n) × (n < 2 ^ 31))
 is_positive n within = grind (arith, ints, nat_tests)
 
--- the later of two moments has the greater version, but for a wrap
+-- the later of two moments has the greater version, except after a wrap
 difference_above : (start changed seen : ℕ) → start < 4294967295 → changed ≤ 26200001 → seen ≤ 26200001 → seen < changed
     → (0 < difference (1 + (start + changed) % 4294967295) (1 + (start + seen) % 4294967295))
     × (difference (1 + (start + changed) % 4294967295) (1 + (start + seen) % 4294967295) < 2 ^ 31)
@@ -57,7 +57,7 @@ difference_not_above : (start changed seen : ℕ) → start < 4294967295 → cha
     → difference (1 + (start + changed) % 4294967295) (1 + (start + seen) % 4294967295) < 2 ^ 31 → seen < changed
 difference_not_above start changed seen within changed_within seen_within above below = omega arith
 
--- the wrapped difference of two versions tells which moment is later
+-- the wrapped difference of two versions says which moment is later
 difference_tells : (start changed seen : ℕ) → start < 4294967295 → changed ≤ 26200001 → seen ≤ 26200001
     → Decides (int_lt (pos 0) (cast_signed w32 (difference (1 + (start + changed) % 4294967295) (1 + (start + seen) % 4294967295)))) (seen < changed)
 difference_tells start changed seen within changed_within seen_within =

@@ -1,11 +1,11 @@
 -- system versions: moments count up without end, and a version is a moment kept in 32 bits
 use Rattle.std.specs.Prelude.{ℕ, zero, suc, ◌+◌, ◌^◌, ◌<◌, ◌≤◌, Bool, ◌||◌, ◌==◌, if◌then◌else◌, pos, ◌-ℤ◌, int_lt}
 use Rattle.std.specs.Int.{int_wrap, w32}
-use Rattle.system_version.specs.declared.version.TheConstants.{MOST_MOMENTS}
+use Rattle.system_version.specs.declared.version.TheConstants.{MOST_MOMENTS, LAST_VERSION}
 
 -- one more, or 1 after the largest, so that no version is 0
 abbrev pub next_version : ℕ → ℕ
-next_version version = if version == 4294967295 then 1 else version + 1
+next_version version = if version == LAST_VERSION then 1 else version + 1
 
 -- the version that stands for a moment, where `first` stands for moment 1
 unfoldable pub version_of : ℕ → ℕ → ℕ

@@ -3,4 +3,4 @@
 
 mod version;
 
-pub use version::{MOST_MOMENTS, SystemVersion};
+pub use version::{LAST_VERSION, MOST_MOMENTS, SystemVersion};

@@ -5,26 +5,29 @@ ghost use Rattle.system_version.specs.Versions.{next_version, version_of, is_lat
 /// The greatest number of moments of a run. It is far below 2^31, so wrapped versions still compare as moments do.
 pub const MOST_MOMENTS: u32 = 26_200_001;
 
+/// The last version. The version after it is 1, so no moment has the version 0.
+pub const LAST_VERSION: u32 = u32::MAX;
+
 /// The version of a moment: it is raised before each system's update, and marks say at which version something
 /// was last taken for writing (Unity's behaviour). 0 is the version of no moment and stands for 'never'.
 #[derive(Clone, Copy, Debug, PartialEq, Eq)]
 pub struct SystemVersion(pub u32);
 
 impl SystemVersion {
-    /// The version of the next moment: one more, and 1 after 4,294,967,295, so that it is never 0.
+    /// Returns the version of the next moment: one more, and 1 after `LAST_VERSION`. It is never 0.
     pub fn next(self) -> SystemVersion
         ensures value { result.0 ≡ next_version self.0 }
         ensures some { 0 < result.0 }
         ensures moment { (first moment : ℕ) → 1 ≤ moment → self.0 ≡ version_of first moment → result.0 ≡ version_of first (moment + 1) }
     {
-        if self.0 == u32::MAX {
+        if self.0 == LAST_VERSION {
             SystemVersion(1)
         } else {
             SystemVersion(self.0 + 1)
         }
     }
 
-    /// Says whether a change of this version came after the version `required`; 0 stands for 'never', and every
+    /// `true` if a change of this version came after the version `required`; 0 stands for 'never', and every
     /// change comes after it.
     ///
     /// The difference is wrapped to 32 bits and read as signed (Unity's behaviour), so the answer is that of the

@@ -22,7 +22,7 @@ entered now row b = record b { marks = marks_at now b.home.types; rows = b.rows 
 abbrev pub new_block : ℕ → Home → Row → Block
 new_block now home row = record { home = home; marks = marks_at now home.types; rows = row ∷ []; order = now }
 
--- whether a row of this home can enter a block that holds so many rows at most
+-- whether a row of this home can enter a block that holds at most this number of rows
 abbrev pub has_room : ℕ → Home → Block → Bool
 has_room capacity home b = same_home home b.home && nat_lt (length b.rows) capacity
 

@@ -15,7 +15,7 @@ abbrev pub front_of : Row → List Row → List Row
 front_of r [] = []
 front_of r (q ∷ rs) = r ∷ front_of q rs
 
--- the rows with another one in the place of the entity's
+-- the rows with another row instead of the entity's
 abbrev pub replaced : Entity → Row → List Row → List Row
 replaced e by rows = map (λ r. if same_entity e r.entity then by else r) rows
 

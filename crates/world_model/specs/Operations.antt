@@ -34,7 +34,7 @@ pub data Act (V : Type 0) : Type 0 where
   -- no element in a buffer any more
   Clear : ℕ → Act V
 
--- the same with other things in the place of values
+-- the same with other things instead of values
 abbrev pub act_map : {V W : Type 0} → (V → W) → Act V → Act W
 act_map f Destroy = Destroy
 act_map f (Add p) = Add (part_map f p)
@@ -77,7 +77,7 @@ home_with t home = record home { types = with_type home.types t }
 abbrev pub home_with_shared : PartOf Value → Home → Home
 home_with_shared p home = record { types = with_type home.types p.type_id; shared = with_typed part_type p home.shared }
 
--- the home and the cells of a new row with these parts, which stand by rising type
+-- the home and the cells of a new row with these parts, which are ordered by rising type
 abbrev pub home_of : List TypeInfo → List (PartOf Value) → Home
 home_of registry parts = record { types = map part_type parts; shared = filter (λ p. is_shared_at registry p.type_id) parts }
 
@@ -173,7 +173,7 @@ decide s x (Clear t) =
     if not (has_type x.home.types t) then Skips NoComponent
     else values_set x t (λ values. [])
 
--- of parts that stand by rising type
+-- of parts that are ordered by rising type
 abbrev pub decide_create : Sight → List (PartOf Value) → Outcome
 decide_create s parts =
     if s.too_large (map part_type parts) then Skips TooLarge

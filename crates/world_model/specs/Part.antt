@@ -8,7 +8,7 @@ use Rattle.ent_types.specs.declared.value.Value.TheVariants.{Int, Ref}
 use Rattle.ent_types.specs.declared.value.Part.{Part}
 
 -- A type with what stands for its values, one for each field: values, or texts that give values. The values of a buffer's
--- elements stand one after another.
+-- elements come one after another.
 pub record PartOf (V : Type 0) : Type 0 where
   pub type_id : ℕ
   pub values : List V
@@ -16,7 +16,7 @@ pub record PartOf (V : Type 0) : Type 0 where
 abbrev pub part_type : {V : Type 0} → PartOf V → ℕ
 part_type p = p.type_id
 
--- the part with other things in the place of its values
+-- the part with other things instead of its values
 abbrev pub part_map : {V W : Type 0} → (V → W) → PartOf V → PartOf W
 part_map f p = record { type_id = p.type_id; values = map f p.values }
 

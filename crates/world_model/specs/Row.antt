@@ -5,13 +5,13 @@ use Rattle.ent_types.specs.declared.value.Value.{Value}
 use Rattle.world_model.specs.Part.{PartOf}
 
 -- What a row has of one type: its values, and whether the type is disabled in this row. The values of a buffer's
--- elements stand one after another.
+-- elements come one after another.
 pub record Cell : Type 0 where
   pub type_id : ℕ
   pub values : List Value
   pub off : Bool
 
--- A row. Its cells stand by rising type, one for each type that isn't shared. A row that is dying was destroyed, and
+-- A row. Its cells are ordered by rising type, one for each type that isn't shared. A row that is dying was destroyed, and
 -- is kept until its cleanup types are removed.
 pub record Row : Type 0 where
   pub entity : Entity

@@ -1,11 +1,11 @@
--- Worlds with versions of 32 bits in the place of moments, as the code keeps them.
+-- Worlds with versions of 32 bits instead of moments, as the code keeps them.
 use Rattle.std.specs.Prelude.{◌≡◌, ℕ, List, map}
 use Rattle.system_version.specs.Versions.{version_of, IsVersion}
 use Rattle.world_model.specs.World.{Mark, Block, World}
 use Rattle.world_model.specs.Operations.{Answer}
 use Rattle.world_model.specs.Lawful.{IsLawful}
 
--- the same with other numbers in the place of moments
+-- the same with other numbers instead of moments
 abbrev pub mark_versions : (ℕ → ℕ) → Mark → Mark
 mark_versions version m = record m { moment = version m.moment }
 

@@ -26,7 +26,7 @@ pub record Block : Type 0 where
   pub rows : List Row
   pub order : ℕ
 
--- The world: its types, where type t stands at place t; the blocks in order; the free entities, the one freed last first;
+-- The world: its types, where type t is at place t; the blocks in order; the free entities, the one freed last first;
 -- how many fresh indexes were made; the version that a fresh index has; and the present moment.
 pub record World : Type 0 where
   pub registry : List TypeInfo

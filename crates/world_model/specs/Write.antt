@@ -9,7 +9,7 @@ use Rattle.world_model.specs.Leave.{replaced, has_entity}
 abbrev pub marked : ℕ → List ℕ → List Mark → List Mark
 marked now types marks = map (λ (m : Mark). if has_type types m.type_id then record m { moment = now } else m) marks
 
--- the block with another row of the same entity in the place of its own, and some types marked
+-- the block with another row of the same entity instead of its own, and some types marked
 abbrev pub rewritten : ℕ → List ℕ → Row → Block → Block
 rewritten now types row b =
     if has_entity row.entity b.rows then record b { rows = replaced row.entity row b.rows; marks = marked now types b.marks } else b
