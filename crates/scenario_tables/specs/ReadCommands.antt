@@ -1,12 +1,14 @@
 -- The tables of a system's commands: `buffer`, `when`, `key`, `do`.
 use Rattle.std.specs.Prelude.{ℕ, pos, ◌+◌, Bool, if◌then◌else◌, List, [], ◌∷◌, ◌++◌, codes, Option, None, Some, Ok}
-use Rattle.toml.specs.Data.{Data}
+use Rattle.toml.specs.Data.{Data, Members}
 use Rattle.ent_types.specs.declared.limits.TheConstants.{MOST_COMMANDS}
 use Rattle.ent_types.specs.declared.point.Point.{Point}
 use Rattle.ent_types.specs.declared.point.Point.TheVariants.{BeginInitialization, EndInitialization, BeginSimulation, EndSimulation, BeginPresentation}
 use Rattle.ent_types.specs.declared.type_info.TypeInfo.{TypeInfo}
 use Rattle.ent_types.specs.Types.{same_name}
 use Rattle.expr_read.specs.declared.scope.Made.{Made}
+use Rattle.expr_trees.specs.declared.tree.CommandText.{CommandText}
+use Rattle.expr_trees.specs.declared.tree.Expr.{Expr}
 use Rattle.expr_trees.specs.declared.tree.Expr.TheVariants.{Number, Variable}
 use Rattle.expr_trees.specs.declared.tree.Variable.TheVariants.{Chunk}
 use Rattle.scenario_record.specs.declared.fault.Cause.TheVariants.{BadWord}
@@ -43,14 +45,28 @@ made_from i buffer (c ∷ cs) = with_made i (same_point c.buffer buffer) (name_m
 
 -- ---- the table
 
-unfoldable pub command : List TypeInfo → List ℕ → List CommandEntry → Data → Reading CommandEntry
-command registry bound earlier d =
-    known_table (codes "buffer" ∷ codes "when" ∷ codes "key" ∷ codes "do" ∷ []) d >>= λ ms.
+-- the act of a command into this buffer
+abbrev pub command_act : List TypeInfo → List ℕ → List CommandEntry → Point → Members → Reading CommandText
+command_act registry bound earlier buffer ms =
+    required (codes "do") (system_command registry bound (made_from 0 buffer earlier)) ms
+
+-- the command with this buffer, condition and key
+abbrev pub command_with : List TypeInfo → List ℕ → List CommandEntry → Point → Expr → Expr → Members → Reading CommandEntry
+command_with registry bound earlier buffer when key ms =
+    command_act registry bound earlier buffer ms >>= λ act.
+    Ok (record { buffer = buffer; when = when; key = key; act = act })
+
+abbrev pub command_keys : List TypeInfo → List ℕ → List CommandEntry → Members → Reading CommandEntry
+command_keys registry bound earlier ms =
     optional (codes "buffer") EndSimulation point ms >>= λ buffer.
     optional (codes "when") (Number (pos 1)) (system_expr registry bound) ms >>= λ when.
     optional (codes "key") (Variable Chunk) (system_expr registry bound) ms >>= λ key.
-    required (codes "do") (system_command registry bound (made_from 0 buffer earlier)) ms >>= λ act.
-    Ok (record { buffer = buffer; when = when; key = key; act = act })
+    command_with registry bound earlier buffer when key ms
+
+unfoldable pub command : List TypeInfo → List ℕ → List CommandEntry → Data → Reading CommandEntry
+command registry bound earlier d =
+    known_table (codes "buffer" ∷ codes "when" ∷ codes "key" ∷ codes "do" ∷ []) d >>= λ ms.
+    command_keys registry bound earlier ms
 
 -- ---- the list
 

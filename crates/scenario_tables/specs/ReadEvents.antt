@@ -6,6 +6,7 @@ use Rattle.ent_types.specs.declared.limits.TheConstants.{MOST_FRAMES, LONGEST_FI
 use Rattle.ent_types.specs.declared.type_info.TypeInfo.{TypeInfo}
 use Rattle.expr_trees.specs.declared.tree.CommandText.{CommandText}
 use Rattle.scenario_record.specs.declared.fault.Cause.TheVariants.{Missing, BadName, BadShape}
+use Rattle.scenario_record.specs.declared.fault.BadScenario.{BadScenario}
 use Rattle.scenario_record.specs.declared.record.EventEntry.{EventEntry}
 use Rattle.scenario_record.specs.declared.record.EventAct.{EventAct}
 use Rattle.scenario_record.specs.declared.record.EventAct.TheVariants.{Operate, Load, Unload}
@@ -36,24 +37,42 @@ abbrev pub load_act : List ℕ → Option (List ℕ) → Option ℕ → Reading 
 load_act file None delay = Err (below_key (codes "as") (bad Missing))
 load_act file (Some label) delay = Ok (Load file label (unwrap_or delay 1))
 
+-- the fault of an act that has `as` or `delay`
+abbrev pub lone_fault : Option (List ℕ) → Option ℕ → Option BadScenario
+lone_fault None None = None
+lone_fault label delay = Some (bad BadShape)
+
 abbrev pub lone_act : Option (List ℕ) → Option ℕ → EventAct → Reading EventAct
-lone_act None None act = Ok act
-lone_act label delay act = Err (bad BadShape)
+lone_act label delay act = unless (lone_fault label delay) (Ok act)
+
+-- the fault of an event with `do` that has another key of an act
+abbrev pub operation_fault : Option (List ℕ) → Option (List ℕ) → Option (List ℕ) → Option ℕ → Option BadScenario
+operation_fault None None label delay = lone_fault label delay
+operation_fault load unload label delay = Some (bad BadShape)
 
 abbrev pub act_by : Option CommandText → Option (List ℕ) → Option (List ℕ) → Option (List ℕ) → Option ℕ → Reading EventAct
-act_by (Some operation) None None label delay = lone_act label delay (Operate operation)
+act_by (Some operation) load unload label delay = unless (operation_fault load unload label delay) (Ok (Operate operation))
 act_by None (Some file) None label delay = load_act file label delay
 act_by None None (Some load) label delay = lone_act label delay (Unload load)
-act_by operation load unload label delay = Err (bad BadShape)
+act_by None load unload label delay = Err (bad BadShape)
 
 abbrev pub act_of : Option CommandText → SceneKeys → Reading EventAct
 act_of operation keys = act_by operation keys.load keys.unload keys.label keys.delay
 
-unfoldable pub event : List TypeInfo → Data → Reading EventEntry
-event registry d =
-    known_table (codes "frame" ∷ codes "do" ∷ codes "load" ∷ codes "as" ∷ codes "delay" ∷ codes "unload" ∷ []) d >>= λ ms.
+-- the event in this frame, with these keys of its act
+abbrev pub event_with : ℕ → Option CommandText → SceneKeys → Reading EventEntry
+event_with frame operation keys =
+    act_of operation keys >>= λ act.
+    Ok (record { frame = frame; act = act })
+
+abbrev pub event_keys : List TypeInfo → Members → Reading EventEntry
+event_keys registry ms =
     required (codes "frame") (number 1 MOST_FRAMES) ms >>= λ frame.
     perhaps (codes "do") (event_command registry) ms >>= λ operation.
     scene_keys ms >>= λ keys.
-    act_of operation keys >>= λ act.
-    Ok (record { frame = frame; act = act })
+    event_with frame operation keys
+
+unfoldable pub event : List TypeInfo → Data → Reading EventEntry
+event registry d =
+    known_table (codes "frame" ∷ codes "do" ∷ codes "load" ∷ codes "as" ∷ codes "delay" ∷ codes "unload" ∷ []) d >>= λ ms.
+    event_keys registry ms

@@ -24,11 +24,24 @@ in_two_bands p = p.first && p.last
 abbrev pub default_group : List ℕ
 default_group = codes "Simulation"
 
+-- the group that a key names
+abbrev pub group_named : List ℕ → Members → Reading (List ℕ)
+group_named key ms = optional key default_group name ms
+
+-- the group with this name and parent
+abbrev pub group_with : List ℕ → List ℕ → Placement → Reading GroupEntry
+group_with name parent p =
+    unless (fault_if (in_two_bands p) BadShape)
+    (Ok (record { name = name; parent = parent; before = p.before; after = p.after; first = p.first; last = p.last }))
+
+abbrev pub group_keys : Members → Reading GroupEntry
+group_keys ms =
+    required (codes "name") name ms >>= λ n.
+    group_named (codes "parent") ms >>= λ parent.
+    placement ms >>= λ p.
+    group_with n parent p
+
 unfoldable pub group : Data → Reading GroupEntry
 group d =
     known_table (codes "name" ∷ codes "parent" ∷ codes "before" ∷ codes "after" ∷ codes "first" ∷ codes "last" ∷ []) d >>= λ ms.
-    required (codes "name") name ms >>= λ n.
-    optional (codes "parent") default_group name ms >>= λ parent.
-    placement ms >>= λ p.
-    unless (fault_if (in_two_bands p) BadShape)
-    (Ok (record { name = n; parent = parent; before = p.before; after = p.after; first = p.first; last = p.last }))
+    group_keys ms

@@ -1,6 +1,6 @@
 -- The table of a spawn: `count`, `with`, `disabled`.
 use Rattle.std.specs.Prelude.{ℕ, ◌+◌, not, ◌==◌, List, [], ◌∷◌, length, fold, codes, Ok, Err}
-use Rattle.toml.specs.Data.{Data, string, integer, Items, no_items, item}
+use Rattle.toml.specs.Data.{Data, string, integer, Items, no_items, item, Members}
 use Rattle.ent_types.specs.declared.limits.TheConstants.{MOST_ENTITIES}
 use Rattle.ent_types.specs.declared.kinds.FieldKind.{FieldKind}
 use Rattle.ent_types.specs.declared.kinds.FieldKind.TheVariants.{I32, I64, Ref as RefKind}
@@ -77,10 +77,15 @@ disabled_types registry types d =
 
 -- ---- the table
 
+-- the spawn with this count and these parts
+abbrev pub spawn_with : List TypeInfo → ℕ → List PartExpr → Members → Reading SpawnEntry
+spawn_with registry count parts ms =
+    optional (codes "disabled") [] (disabled_types registry (part_types parts)) ms >>= λ disabled.
+    Ok (record { count = count; parts = parts; disabled = disabled })
+
 unfoldable pub spawn : List TypeInfo → Data → Reading SpawnEntry
 spawn registry d =
     known_table (codes "count" ∷ codes "with" ∷ codes "disabled" ∷ []) d >>= λ ms.
     optional (codes "count") 1 (number 1 MOST_ENTITIES) ms >>= λ count.
     optional (codes "with") [] (with_table registry) ms >>= λ parts.
-    optional (codes "disabled") [] (disabled_types registry (part_types parts)) ms >>= λ disabled.
-    Ok (record { count = count; parts = parts; disabled = disabled })
+    spawn_with registry count parts ms

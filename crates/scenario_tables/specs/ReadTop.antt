@@ -1,11 +1,13 @@
 -- The table at the top of a scenario.
 use Rattle.std.specs.Prelude.{ℕ, List, [], ◌∷◌, codes, Ok}
 use Rattle.toml.specs.Data.{Members}
-use Rattle.ent_types.specs.declared.limits.TheConstants.{MOST_FRAMES, MOST_SPAWNS, MOST_GROUPS, MOST_SYSTEMS, MOST_EVENTS}
+use Rattle.ent_types.specs.declared.limits.TheConstants.{LAST_ENTITY_VERSION, LAST_SYSTEM_VERSION, MOST_FRAMES, MOST_SPAWNS, MOST_GROUPS, MOST_SYSTEMS, MOST_EVENTS}
 use Rattle.ent_types.specs.declared.type_info.TypeInfo.{TypeInfo}
 use Rattle.ent_types.specs.Registries.{built_in_types}
+use Rattle.scenario_record.specs.declared.record.GroupEntry.{GroupEntry}
 use Rattle.scenario_record.specs.declared.record.Scenario.{Scenario}
 use Rattle.scenario_record.specs.declared.record.SpawnEntry.{SpawnEntry}
+use Rattle.scenario_record.specs.declared.record.SystemEntry.{SystemEntry}
 use Rattle.scenario_record.specs.Readings.{Reading, ◌>>=◌, unless}
 use Rattle.scenario_tables.specs.declared.top.Numbers.{Numbers}
 use Rattle.scenario_tables.specs.declared.top.Schedule.{Schedule}
@@ -21,8 +23,8 @@ use Rattle.scenario_tables.specs.ReadStages.{is_placed, is_unbuilt}
 abbrev pub numbers : Members → Reading Numbers
 numbers ms =
     required (codes "frames") (number 0 MOST_FRAMES) ms >>= λ f.
-    optional (codes "first_system_version") 1 (number 1 4294967295) ms >>= λ s.
-    optional (codes "first_entity_version") 1 (number 1 4294967295) ms >>= λ e.
+    optional (codes "first_system_version") 1 (number 1 LAST_SYSTEM_VERSION) ms >>= λ s.
+    optional (codes "first_entity_version") 1 (number 1 LAST_ENTITY_VERSION) ms >>= λ e.
     Ok (record { frames = f; first_system_version = s; first_entity_version = e })
 
 -- `type`
@@ -33,24 +35,27 @@ types ms = optional (codes "type") built_in_types registry_of ms
 abbrev pub spawns : List TypeInfo → Members → Reading (List SpawnEntry)
 spawns registry ms = optional (codes "spawn") [] (each_up_to MOST_SPAWNS (spawn registry)) ms
 
+-- `event`, after these groups and systems
+abbrev pub schedule_with : List TypeInfo → List GroupEntry → List SystemEntry → Members → Reading Schedule
+schedule_with registry group system ms =
+    optional (codes "event") [] (each_up_to MOST_EVENTS (event registry)) ms >>= λ event.
+    Ok (record { group = group; system = system; event = event })
+
 -- `group`, `system`, `event`
 abbrev pub schedule : List TypeInfo → Members → Reading Schedule
 schedule registry ms =
     optional (codes "group") [] (each_up_to MOST_GROUPS group) ms >>= λ group.
     optional (codes "system") [] (each_up_to MOST_SYSTEMS (system registry)) ms >>= λ system.
-    optional (codes "event") [] (each_up_to MOST_EVENTS (event registry)) ms >>= λ event.
-    Ok (record { group = group; system = system; event = event })
+    schedule_with registry group system ms
 
 abbrev pub known_at_top : List (List ℕ)
 known_at_top =
     codes "frames" ∷ codes "first_system_version" ∷ codes "first_entity_version" ∷ codes "type" ∷ codes "spawn" ∷
     codes "group" ∷ codes "system" ∷ codes "event" ∷ []
 
-abbrev pub top_keys : Members → Reading Scenario
-top_keys ms =
-    numbers ms >>= λ n.
-    types ms >>= λ registry.
-    spawns registry ms >>= λ spawn.
+-- the scenario with these numbers, types and spawns
+abbrev pub scenario_with : Numbers → List TypeInfo → List SpawnEntry → Members → Reading Scenario
+scenario_with n registry spawn ms =
     schedule registry ms >>= λ s.
     Ok (record {
       frames = n.frames;
@@ -64,6 +69,18 @@ top_keys ms =
       placed = is_placed ms;
       unbuilt = is_unbuilt ms;
     })
+
+-- the scenario with these numbers and types
+abbrev pub scenario_over : Numbers → List TypeInfo → Members → Reading Scenario
+scenario_over n registry ms =
+    spawns registry ms >>= λ spawn.
+    scenario_with n registry spawn ms
+
+abbrev pub top_keys : Members → Reading Scenario
+top_keys ms =
+    numbers ms >>= λ n.
+    types ms >>= λ registry.
+    scenario_over n registry ms
 
 unfoldable pub top_table : Members → Reading Scenario
 top_table ms = unless (unknown_key known_at_top ms) (top_keys ms)

@@ -1,9 +1,9 @@
 //! The commands of a system, as a scenario declares them.
 ghost use Rattle.std.specs.Prelude.{◌≡◌, ◌≤◌, ◌<◌, length, IfOk};
-ghost use Rattle.toml.specs.View.{view};
+ghost use Rattle.toml.specs.View.{view, table_view};
 ghost use Rattle.ent_types.specs.declared.limits.TheConstants.{MOST_COMMANDS};
 ghost use Rattle.scenario_record.specs.Readings.{Answers};
-ghost use Rattle.scenario_tables.specs.ReadCommands.{point, same_point, name_made, made_from, command, one_more_command, command_list};
+ghost use Rattle.scenario_tables.specs.ReadCommands.{point, same_point, name_made, made_from, command_act, command_with, command_keys, command, one_more_command, command_list};
 
 use crate::form::{Form, Step, each_over, optional, required};
 use crate::keys::{known_table, list_up_to, text};
@@ -14,10 +14,13 @@ use expr_read::Made;
 use expr_trees::{CommandText, Expr, Variable};
 use scenario_record::{Cause, CommandEntry, ScenarioFault, bad};
 use std::alloc::Global;
-use toml::Value;
+use toml::{Table, Value};
 
-/// The point at which a command is played.
-#[derive(Drop)]
+/// The keys of a command, in reading order.
+const KEYS: [&str; 4] = ["buffer", "when", "key", "do"];
+
+/// The point at which a command is played back.
+#[derive(Clone, Copy)]
 struct PointForm;
 
 impl Form for PointForm {
@@ -78,6 +81,73 @@ fn made_by(alloc: Global, buffer: Point, earlier: &[CommandEntry]) -> Result<Vec
     Ok(made)
 }
 
+/// Reads the act of a command into the buffer.
+fn act_of(
+    alloc: Global,
+    registry: &Registry,
+    bound: &TypeSet,
+    earlier: &[CommandEntry],
+    buffer: Point,
+    table: &Table,
+) -> Result<CommandText, ScenarioFault>
+    requires { length earlier.now ≤ MOST_COMMANDS }
+    ensures { Answers (command_act registry.now bound.now earlier.now buffer (table_view table.now)) result }
+{
+    let made = made_by(alloc, buffer, earlier)?;
+    let text = SystemText {
+        kind: ActText,
+        registry,
+        bound,
+        made: made.as_slice(),
+    };
+    required(alloc, "do", &text, table)
+}
+
+/// Reads the act of a command, whose other keys are these.
+fn command_with(
+    alloc: Global,
+    registry: &Registry,
+    bound: &TypeSet,
+    earlier: &[CommandEntry],
+    buffer: Point,
+    when: Expr,
+    key: Expr,
+    table: &Table,
+) -> Result<CommandEntry, ScenarioFault>
+    requires { length earlier.now ≤ MOST_COMMANDS }
+    ensures { Answers (command_with registry.now bound.now earlier.now buffer when key (table_view table.now)) result }
+{
+    let act = act_of(alloc, registry, bound, earlier, buffer, table)?;
+    Ok(CommandEntry {
+        buffer,
+        when,
+        key,
+        act,
+    })
+}
+
+fn command_keys(
+    alloc: Global,
+    registry: &Registry,
+    bound: &TypeSet,
+    earlier: &[CommandEntry],
+    table: &Table,
+) -> Result<CommandEntry, ScenarioFault>
+    requires { length earlier.now ≤ MOST_COMMANDS }
+    ensures { Answers (command_keys registry.now bound.now earlier.now (table_view table.now)) result }
+{
+    let expr = SystemText {
+        kind: ExprText,
+        registry,
+        bound,
+        made: &[],
+    };
+    let buffer = optional(alloc, "buffer", Point::EndSimulation, &PointForm, table)?;
+    let when = optional(alloc, "when", Expr::Number(1), &expr, table)?;
+    let key = optional(alloc, "key", Expr::Variable(Variable::Chunk), &expr, table)?;
+    command_with(alloc, registry, bound, earlier, buffer, when, key, table)
+}
+
 /// Reads a command, whose system has these commands before it.
 #[tactic(auto, unfolding(crate::specs::ReadCommands::command))]
 fn command_in(
@@ -90,35 +160,12 @@ fn command_in(
     requires { length earlier.now ≤ MOST_COMMANDS }
     ensures { Answers (command registry.now bound.now earlier.now (view value.now)) result }
 {
-    let table = known_table(alloc, &["buffer", "when", "key", "do"], value)?;
-    let expr = SystemText {
-        kind: ExprText,
-        registry,
-        bound,
-        made: &[],
-    };
-    let chunk = Expr::Variable(Variable::Chunk);
-    let buffer = optional(alloc, "buffer", Point::EndSimulation, &PointForm, table)?;
-    let when = optional(alloc, "when", Expr::Number(1), &expr, table)?;
-    let key = optional(alloc, "key", chunk, &expr, table)?;
-    let made = made_by(alloc, buffer, earlier)?;
-    let text = SystemText {
-        kind: ActText,
-        registry,
-        bound,
-        made: made.as_slice(),
-    };
-    let act = required(alloc, "do", &text, table)?;
-    Ok(CommandEntry {
-        buffer,
-        when,
-        key,
-        act,
-    })
+    let table = known_table(alloc, &KEYS, value)?;
+    command_keys(alloc, registry, bound, earlier, table)
 }
 
 /// The commands of a system.
-#[derive(Drop)]
+#[derive(Clone, Copy)]
 pub(crate) struct CommandsForm<'a> {
     /// The types.
     pub(crate) registry: &'a Registry,

@@ -1,7 +1,9 @@
 //! Events, as a scenario declares them.
+ghost use Rattle.std.specs.Prelude.{None, Some};
 ghost use Rattle.toml.specs.View.{table_view};
-ghost use Rattle.scenario_record.specs.Readings.{Answers};
-ghost use Rattle.scenario_tables.specs.ReadEvents.{file_name, scene_keys, load_act, lone_act, act_of, event};
+ghost use Rattle.scenario_record.specs.declared.record.EventAct.TheVariants.{Unload};
+ghost use Rattle.scenario_record.specs.Readings.{Answers, Passes};
+ghost use Rattle.scenario_tables.specs.ReadEvents.{file_name, scene_keys, load_act, lone_fault, lone_act, operation_fault, act_of, event_with, event_keys, event};
 
 use crate::form::{Form, missing, perhaps, required};
 use crate::keys::{NameForm, NumberForm, known_table, text};
@@ -13,8 +15,11 @@ use scenario_record::{Cause, EventAct, EventEntry, FileName, ScenarioFault, bad}
 use std::alloc::Global;
 use toml::{Table, Value};
 
-/// A file name, of 1 to 255 bytes.
-#[derive(Drop)]
+/// The keys of an event, in reading order.
+const KEYS: [&str; 6] = ["frame", "do", "load", "as", "delay", "unload"];
+
+/// A file name, of 1 to `LONGEST_FILE_NAME` bytes.
+#[derive(Clone, Copy)]
 struct FileForm;
 
 impl Form for FileForm {
@@ -53,16 +58,11 @@ fn load_act(
 }
 
 /// Checks that an act has neither `as` nor `delay`.
-fn lone_act(
-    alloc: Global,
-    label: Option<Name>,
-    delay: Option<u32>,
-    act: EventAct,
-) -> Result<EventAct, ScenarioFault>
-    ensures { Answers (lone_act label delay act) result }
+fn is_lone(alloc: Global, label: Option<Name>, delay: Option<u32>) -> Result<(), ScenarioFault>
+    ensures { Passes (lone_fault label delay) result }
 {
     match (label, delay) {
-        (None, None) => Ok(act),
+        (None, None) => Ok(()),
         (None, Some(_)) => Err(bad(alloc, Cause::BadShape)),
         (Some(_), None) => Err(bad(alloc, Cause::BadShape)),
         (Some(_), Some(_)) => Err(bad(alloc, Cause::BadShape)),
@@ -101,6 +101,55 @@ fn scene_keys(alloc: Global, table: &Table) -> Result<SceneKeys, ScenarioFault>
     })
 }
 
+/// Checks that an event with `do` has no other key of an act.
+fn only_operates(alloc: Global, keys: &SceneKeys) -> Result<(), ScenarioFault>
+    ensures { Passes (operation_fault keys.now.load keys.now.unload keys.now.label keys.now.delay) result }
+{
+    match (&keys.load, keys.unload) {
+        (None, None) => is_lone(alloc, keys.label, keys.delay),
+        (None, Some(_)) => Err(bad(alloc, Cause::BadShape)),
+        (Some(_), None) => Err(bad(alloc, Cause::BadShape)),
+        (Some(_), Some(_)) => Err(bad(alloc, Cause::BadShape)),
+    }
+}
+
+/// Returns the act of an event with `do`.
+fn operate(
+    alloc: Global,
+    operation: CommandText,
+    keys: &SceneKeys,
+) -> Result<EventAct, ScenarioFault>
+    ensures { Answers (act_of (Some operation) keys.now) result }
+{
+    only_operates(alloc, keys)?;
+    Ok(EventAct::Operate(operation))
+}
+
+/// Returns the act that unloads a scene.
+fn unload_act(
+    alloc: Global,
+    load: Name,
+    label: Option<Name>,
+    delay: Option<u32>,
+) -> Result<EventAct, ScenarioFault>
+    ensures { Answers (lone_act label delay (Unload load)) result }
+{
+    is_lone(alloc, label, delay)?;
+    Ok(EventAct::Unload(load))
+}
+
+/// Returns the act of an event without `do`.
+fn scene_act(alloc: Global, keys: SceneKeys) -> Result<EventAct, ScenarioFault>
+    ensures { Answers (act_of None keys) result }
+{
+    match (keys.load, keys.unload) {
+        (None, None) => Err(bad(alloc, Cause::BadShape)),
+        (None, Some(load)) => unload_act(alloc, load, keys.label, keys.delay),
+        (Some(file), None) => load_act(alloc, file, keys.label, keys.delay),
+        (Some(_), Some(_)) => Err(bad(alloc, Cause::BadShape)),
+    }
+}
+
 /// Returns the act of an event, by the keys that it has.
 fn act_of(
     alloc: Global,
@@ -109,28 +158,45 @@ fn act_of(
 ) -> Result<EventAct, ScenarioFault>
     ensures { Answers (act_of operation keys) result }
 {
-    let SceneKeys {
-        load,
-        label,
-        delay,
-        unload,
-    } = keys;
-    match (operation, load, unload) {
-        (Some(operation), None, None) => {
-            lone_act(alloc, label, delay, EventAct::Operate(operation))
-        }
-        (None, Some(file), None) => load_act(alloc, file, label, delay),
-        (None, None, Some(load)) => lone_act(alloc, label, delay, EventAct::Unload(load)),
-        (None, None, None) => Err(bad(alloc, Cause::BadShape)),
-        (Some(_), Some(_), None) => Err(bad(alloc, Cause::BadShape)),
-        (Some(_), None, Some(_)) => Err(bad(alloc, Cause::BadShape)),
-        (None, Some(_), Some(_)) => Err(bad(alloc, Cause::BadShape)),
-        (Some(_), Some(_), Some(_)) => Err(bad(alloc, Cause::BadShape)),
+    match operation {
+        Some(operation) => operate(alloc, operation, &keys),
+        None => scene_act(alloc, keys),
     }
 }
 
+/// Returns the event in this frame, with these keys of its act.
+fn event_with(
+    alloc: Global,
+    frame: u32,
+    operation: Option<CommandText>,
+    keys: SceneKeys,
+) -> Result<EventEntry, ScenarioFault>
+    ensures { Answers (event_with frame operation keys) result }
+{
+    let act = act_of(alloc, operation, keys)?;
+    Ok(EventEntry { frame, act })
+}
+
+fn event_keys(
+    alloc: Global,
+    registry: &Registry,
+    table: &Table,
+) -> Result<EventEntry, ScenarioFault>
+    ensures { Answers (event_keys registry.now (table_view table.now)) result }
+{
+    let frames = NumberForm {
+        low: 1,
+        high: MOST_FRAMES,
+    };
+    let operations = OperationForm { registry };
+    let frame = required(alloc, "frame", &frames, table)?;
+    let operation = perhaps(alloc, "do", &operations, table)?;
+    let keys = scene_keys(alloc, table)?;
+    event_with(alloc, frame, operation, keys)
+}
+
 /// An event.
-#[derive(Drop)]
+#[derive(Clone, Copy)]
 pub(crate) struct EventForm<'a> {
     /// The types.
     pub(crate) registry: &'a Registry,
@@ -143,19 +209,7 @@ impl<'a> Form for EventForm<'a> {
 
     #[tactic(auto, unfolding(crate::specs::ReadEvents::event))]
     fn read(&self, alloc: Global, value: &Value) -> Result<EventEntry, ScenarioFault> {
-        let known = ["frame", "do", "load", "as", "delay", "unload"];
-        let frames = NumberForm {
-            low: 1,
-            high: MOST_FRAMES,
-        };
-        let operations = OperationForm {
-            registry: self.registry,
-        };
-        let table = known_table(alloc, &known, value)?;
-        let frame = required(alloc, "frame", &frames, table)?;
-        let operation = perhaps(alloc, "do", &operations, table)?;
-        let keys = scene_keys(alloc, table)?;
-        let act = act_of(alloc, operation, keys)?;
-        Ok(EventEntry { frame, act })
+        let table = known_table(alloc, &KEYS, value)?;
+        event_keys(alloc, self.registry, table)
     }
 }

@@ -136,23 +136,32 @@ fn each<F: Form>(
     Ok(found)
 }
 
-/// A list of at most `most` values.
-#[derive(Drop)]
-pub(crate) struct ListOf<F> {
-    /// The greatest number of values.
-    pub(crate) most: usize,
-    /// How each is read.
-    pub(crate) item: F,
+/// Reads a list of at most `most` values.
+fn listed<F: Form>(
+    alloc: Global,
+    most: usize,
+    form: &F,
+    value: &Value,
+) -> Result<Sequence<F::Out>, ScenarioFault>
+    ensures { Answers (each_up_to most (F.reads form.now) (view value.now)) result }
+{
+    let values = list_up_to(alloc, most, value)?;
+    each(alloc, form, values)
 }
 
-impl<F: Form> Form for ListOf<F> {
-    type Out = Sequence<F::Out>;
-
-    ghost reads = { λ it d. each_up_to it.most (F.reads it.item) d };
-
-    fn read(&self, alloc: Global, value: &Value) -> Result<Sequence<F::Out>, ScenarioFault> {
-        let values = list_up_to(alloc, self.most, value)?;
-        each(alloc, &self.item, values)
+/// Reads the list under a key, of at most `most` values. It is empty if the key is left out.
+pub(crate) fn list_under<F: Form>(
+    alloc: Global,
+    key: &str,
+    most: usize,
+    form: &F,
+    table: &Table,
+) -> Result<Sequence<F::Out>, ScenarioFault>
+    ensures { Answers (optional key.now [] (each_up_to most (F.reads form.now)) (table_view table.now)) result }
+{
+    match value_of(table, key) {
+        Some(value) => under(alloc, key, listed(alloc, most, form, value)),
+        None => Ok(Sequence::new(alloc)),
     }
 }
 

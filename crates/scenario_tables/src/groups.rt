@@ -2,15 +2,18 @@
 ghost use Rattle.std.specs.Prelude.{◌≡◌};
 ghost use Rattle.toml.specs.View.{table_view};
 ghost use Rattle.scenario_record.specs.Readings.{Answers};
-ghost use Rattle.scenario_tables.specs.ReadGroups.{placement, in_two_bands, default_group, group};
+ghost use Rattle.scenario_tables.specs.ReadGroups.{placement, in_two_bands, default_group, group_named, group_with, group_keys, group};
 
-use crate::form::{Form, ListOf, optional, required};
-use crate::keys::{NAMES, NameForm, TruthForm, known_table};
-use ent_types::limits::MOST_GROUPS;
+use crate::form::{Form, list_under, optional, required};
+use crate::keys::{NameForm, TruthForm, known_table};
+use ent_types::limits::MOST_ORDER_NAMES;
 use ent_types::{Name, Sequence};
 use scenario_record::{Cause, GroupEntry, ScenarioFault, bad};
 use std::alloc::Global;
 use toml::{Table, Value};
+
+/// The keys of a group, in reading order.
+const KEYS: [&str; 6] = ["name", "parent", "before", "after", "first", "last"];
 
 /// The siblings that a child comes before and after, and its band.
 #[derive(Drop)]
@@ -29,8 +32,8 @@ pub(crate) struct Placement {
 pub(crate) fn placement_of(alloc: Global, table: &Table) -> Result<Placement, ScenarioFault>
     ensures { Answers (placement (table_view table.now)) result }
 {
-    let before = optional(alloc, "before", Sequence::new(alloc), &NAMES, table)?;
-    let after = optional(alloc, "after", Sequence::new(alloc), &NAMES, table)?;
+    let before = list_under(alloc, "before", MOST_ORDER_NAMES, &NameForm, table)?;
+    let after = list_under(alloc, "after", MOST_ORDER_NAMES, &NameForm, table)?;
     let first = optional(alloc, "first", false, &TruthForm, table)?;
     let last = optional(alloc, "last", false, &TruthForm, table)?;
     Ok(Placement {
@@ -51,7 +54,7 @@ impl Placement {
 }
 
 /// Returns the group of a child that names none.
-pub(crate) fn default_group() -> Name
+fn default_group() -> Name
     ensures { result ≡ default_group }
 {
     match Name::of(b"Simulation") {
@@ -60,8 +63,46 @@ pub(crate) fn default_group() -> Name
     }
 }
 
+/// Reads the group that a key names.
+pub(crate) fn group_named(alloc: Global, key: &str, table: &Table) -> Result<Name, ScenarioFault>
+    ensures { Answers (group_named key.now (table_view table.now)) result }
+{
+    optional(alloc, key, default_group(), &NameForm, table)
+}
+
+/// Returns the group with this name, parent and placement, which can't be both first and last.
+fn group_with(
+    alloc: Global,
+    name: Name,
+    parent: Name,
+    placement: Placement,
+) -> Result<GroupEntry, ScenarioFault>
+    ensures { Answers (group_with name parent placement) result }
+{
+    if placement.is_in_two_bands() {
+        return Err(bad(alloc, Cause::BadShape));
+    }
+    Ok(GroupEntry {
+        name,
+        parent,
+        before: placement.before,
+        after: placement.after,
+        first: placement.first,
+        last: placement.last,
+    })
+}
+
+fn group_keys(alloc: Global, table: &Table) -> Result<GroupEntry, ScenarioFault>
+    ensures { Answers (group_keys (table_view table.now)) result }
+{
+    let name = required(alloc, "name", &NameForm, table)?;
+    let parent = group_named(alloc, "parent", table)?;
+    let placement = placement_of(alloc, table)?;
+    group_with(alloc, name, parent, placement)
+}
+
 /// A group.
-#[derive(Drop)]
+#[derive(Clone, Copy)]
 pub(crate) struct GroupForm;
 
 impl Form for GroupForm {
@@ -71,27 +112,7 @@ impl Form for GroupForm {
 
     #[tactic(auto, unfolding(crate::specs::ReadGroups::group))]
     fn read(&self, alloc: Global, value: &Value) -> Result<GroupEntry, ScenarioFault> {
-        let known = ["name", "parent", "before", "after", "first", "last"];
-        let table = known_table(alloc, &known, value)?;
-        let name = required(alloc, "name", &NameForm, table)?;
-        let parent = optional(alloc, "parent", default_group(), &NameForm, table)?;
-        let placement = placement_of(alloc, table)?;
-        if placement.is_in_two_bands() {
-            return Err(bad(alloc, Cause::BadShape));
-        }
-        Ok(GroupEntry {
-            name,
-            parent,
-            before: placement.before,
-            after: placement.after,
-            first: placement.first,
-            last: placement.last,
-        })
+        let table = known_table(alloc, &KEYS, value)?;
+        group_keys(alloc, table)
     }
 }
-
-/// The groups of a scenario.
-pub(crate) const GROUPS: ListOf<GroupForm> = ListOf {
-    most: MOST_GROUPS,
-    item: GroupForm,
-};

@@ -7,9 +7,8 @@ ghost use Rattle.ent_types.specs.Types.{same_name};
 ghost use Rattle.scenario_record.specs.Readings.{Answers, AnswersAs, Passes};
 ghost use Rattle.scenario_tables.specs.ReadKeys.{unknown_key, truth, number, text, name_in, name, list, members, known_table, few_items, list_up_to, few_members, members_up_to};
 
-use crate::form::{Form, ListOf};
+use crate::form::Form;
 use ent_types::Name;
-use ent_types::limits::MOST_ORDER_NAMES;
 use scenario_record::{Cause, ScenarioFault, bad, below_key};
 use std::alloc::Global;
 use toml::{Table, Value};
@@ -138,7 +137,7 @@ fn few_members(alloc: Global, most: usize, table: &Table) -> Result<&Table, Scen
 // ---- truth values, numbers and names
 
 /// A truth value.
-#[derive(Drop)]
+#[derive(Clone, Copy)]
 pub(crate) struct TruthForm;
 
 impl Form for TruthForm {
@@ -155,7 +154,7 @@ impl Form for TruthForm {
 }
 
 /// A number from `low` to `high`.
-#[derive(Drop)]
+#[derive(Clone, Copy)]
 pub(crate) struct NumberForm {
     /// The least number.
     pub(crate) low: u32,
@@ -196,7 +195,7 @@ pub(crate) fn name_in(alloc: Global, text: &str) -> Result<Name, ScenarioFault>
 }
 
 /// A name.
-#[derive(Drop)]
+#[derive(Clone, Copy)]
 pub(crate) struct NameForm;
 
 impl Form for NameForm {
@@ -209,9 +208,3 @@ impl Form for NameForm {
         name_in(alloc, text)
     }
 }
-
-/// The names under `before` or `after`.
-pub(crate) const NAMES: ListOf<NameForm> = ListOf {
-    most: MOST_ORDER_NAMES,
-    item: NameForm,
-};

@@ -92,7 +92,7 @@ pub(crate) fn bound_types(clauses: &Clauses) -> TypeSet
 // ---- the change filter
 
 /// The types of which one was written since the last run.
-#[derive(Drop)]
+#[derive(Clone, Copy)]
 struct ChangedForm<'a> {
     /// The types.
     registry: &'a Registry,
@@ -200,7 +200,7 @@ fn shared_part_of(
 }
 
 /// The shared values of a type that is a key.
-#[derive(Drop)]
+#[derive(Clone, Copy)]
 struct SharedPartForm<'a> {
     /// The types.
     registry: &'a Registry,
@@ -221,7 +221,7 @@ impl<'a> KeyForm for SharedPartForm<'a> {
 }
 
 /// The shared values that a visited block has.
-#[derive(Drop)]
+#[derive(Clone, Copy)]
 struct SharedForm<'a> {
     /// The types.
     registry: &'a Registry,

@@ -1,10 +1,10 @@
 //! Spawns, which make entities before the first frame.
 ghost use Rattle.std.specs.Prelude.{◌≡◌, ◌<◌, length, All, IfOk};
 ghost use Rattle.toml.specs.Data.{integer, string};
-ghost use Rattle.toml.specs.View.{view, items_view};
+ghost use Rattle.toml.specs.View.{view, items_view, table_view};
 ghost use Rattle.ent_types.specs.declared.limits.TheConstants.{MOST_TYPES};
 ghost use Rattle.scenario_record.specs.Readings.{Answers};
-ghost use Rattle.scenario_tables.specs.ReadSpawns.{number_value, ref_value, field_value, values_from, part_values, part_of, part, with_table, part_types, disabled_types, spawn};
+ghost use Rattle.scenario_tables.specs.ReadSpawns.{number_value, ref_value, field_value, values_from, part_values, part_of, part, with_table, part_types, disabled_types, spawn_with, spawn};
 
 use crate::form::{Form, KeyForm, at_place, each_member, each_over, optional};
 use crate::keys::{NumberForm, known_table, list, members, text};
@@ -16,7 +16,10 @@ use ent_types::{FieldInfo, FieldKind, Registry, Sequence, TypeId, TypeSet};
 use expr_trees::{Expr, PartExpr, ValueExpr};
 use scenario_record::{Cause, ScenarioFault, SpawnEntry, bad};
 use std::alloc::Global;
-use toml::Value;
+use toml::{Table, Value};
+
+/// The keys of a spawn, in reading order.
+const KEYS: [&str; 3] = ["count", "with", "disabled"];
 
 // ---- the values of a part
 
@@ -99,7 +102,8 @@ fn each_value(
     let mut found = Sequence::new(alloc);
     for (i, field) in fields.iter().enumerate() {
         let value = field_value(alloc, registry, field.kind, &values[i]);
-        found.push(at_place(alloc, i, value)?)?;
+        let value = at_place(alloc, i, value)?;
+        found.push(value)?;
     }
     Ok(found)
 }
@@ -137,7 +141,7 @@ fn part_of(
 }
 
 /// The part of a spawn with its type as a key.
-#[derive(Drop)]
+#[derive(Clone, Copy)]
 struct PartForm<'a> {
     /// The types.
     registry: &'a Registry,
@@ -158,7 +162,7 @@ impl<'a> KeyForm for PartForm<'a> {
 }
 
 /// The parts of a spawn.
-#[derive(Drop)]
+#[derive(Clone, Copy)]
 struct WithForm<'a> {
     /// The types.
     registry: &'a Registry,
@@ -195,7 +199,7 @@ fn types_of(parts: &[PartExpr]) -> TypeSet
 }
 
 /// The types that are disabled in each row, which are enableable types of its parts.
-#[derive(Drop)]
+#[derive(Clone, Copy)]
 struct DisabledForm<'a> {
     /// The types.
     registry: &'a Registry,
@@ -223,8 +227,29 @@ impl<'a> Form for DisabledForm<'a> {
 
 // ---- the table
 
+/// Reads the disabled types of a spawn, whose other keys are these.
+fn spawn_with(
+    alloc: Global,
+    registry: &Registry,
+    count: u32,
+    parts: Sequence<PartExpr>,
+    table: &Table,
+) -> Result<SpawnEntry, ScenarioFault>
+    requires { All (λ p. p.ty.0 < MOST_TYPES) parts }
+    ensures { Answers (spawn_with registry.now count parts (table_view table.now)) result }
+{
+    let types = types_of(parts.as_slice());
+    let of_parts = DisabledForm { registry, types };
+    let disabled = optional(alloc, "disabled", TypeSet::empty(), &of_parts, table)?;
+    Ok(SpawnEntry {
+        count,
+        parts,
+        disabled,
+    })
+}
+
 /// A spawn.
-#[derive(Drop)]
+#[derive(Clone, Copy)]
 pub(crate) struct SpawnForm<'a> {
     /// The types.
     pub(crate) registry: &'a Registry,
@@ -242,17 +267,10 @@ impl<'a> Form for SpawnForm<'a> {
             low: 1,
             high: MOST_ENTITIES,
         };
-        let table = known_table(alloc, &["count", "with", "disabled"], value)?;
+        let table = known_table(alloc, &KEYS, value)?;
         let count = optional(alloc, "count", 1, &counts, table)?;
         let with = WithForm { registry };
         let parts = optional(alloc, "with", Sequence::new(alloc), &with, table)?;
-        let types = types_of(parts.as_slice());
-        let of_parts = DisabledForm { registry, types };
-        let disabled = optional(alloc, "disabled", TypeSet::empty(), &of_parts, table)?;
-        Ok(SpawnEntry {
-            count,
-            parts,
-            disabled,
-        })
+        spawn_with(alloc, registry, count, parts, table)
     }
 }

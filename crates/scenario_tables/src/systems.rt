@@ -3,11 +3,11 @@ ghost use Rattle.std.specs.Prelude.{◌≡◌};
 ghost use Rattle.toml.specs.View.{table_view};
 ghost use Rattle.scenario_record.specs.Readings.{Answers};
 ghost use Rattle.scenario_tables.specs.ReadQueries.{bound_types};
-ghost use Rattle.scenario_tables.specs.ReadSystems.{heading, acts, body, system_of, system};
+ghost use Rattle.scenario_tables.specs.ReadSystems.{heading_with, heading, acts_with, acts, body, system_of, placed_system, headed_system, system};
 
 use crate::commands::CommandsForm;
-use crate::form::{Form, ListOf, optional, required};
-use crate::groups::{Placement, default_group, placement_of};
+use crate::form::{Form, list_under, optional, required};
+use crate::groups::{Placement, group_named, placement_of};
 use crate::keys::{NameForm, NumberForm, known_table};
 use crate::queries::{Clauses, Filters, bound_types, clauses_of, filters_of};
 use crate::texts::{AssignText, SwitchText, SystemText};
@@ -55,16 +55,20 @@ struct Heading {
     every: u32,
 }
 
-fn heading_of(alloc: Global, table: &Table) -> Result<Heading, ScenarioFault>
-    ensures { Answers (heading (table_view table.now)) result }
+/// Reads when a system runs, whose other keys are these.
+fn heading_with(
+    alloc: Global,
+    name: Name,
+    group: Name,
+    placement: Placement,
+    table: &Table,
+) -> Result<Heading, ScenarioFault>
+    ensures { Answers (heading_with name group placement (table_view table.now)) result }
 {
     let frames = NumberForm {
         low: 1,
         high: MOST_FRAMES,
     };
-    let name = required(alloc, "name", &NameForm, table)?;
-    let group = optional(alloc, "group", default_group(), &NameForm, table)?;
-    let placement = placement_of(alloc, table)?;
     let every = optional(alloc, "every", 1, &frames, table)?;
     Ok(Heading {
         name,
@@ -72,6 +76,15 @@ fn heading_of(alloc: Global, table: &Table) -> Result<Heading, ScenarioFault>
         placement,
         every,
     })
+}
+
+fn heading_of(alloc: Global, table: &Table) -> Result<Heading, ScenarioFault>
+    ensures { Answers (heading (table_view table.now)) result }
+{
+    let name = required(alloc, "name", &NameForm, table)?;
+    let group = group_named(alloc, "group", table)?;
+    let placement = placement_of(alloc, table)?;
+    heading_with(alloc, name, group, placement, table)
 }
 
 /// The acts of a system on each row, in this order.
@@ -85,6 +98,26 @@ struct Acts {
     command: Sequence<CommandEntry>,
 }
 
+/// Reads the commands of a system, whose other acts are these.
+fn acts_with(
+    alloc: Global,
+    registry: &Registry,
+    bound: &TypeSet,
+    set: Sequence<Assign>,
+    enable: Sequence<Switch>,
+    table: &Table,
+) -> Result<Acts, ScenarioFault>
+    ensures { Answers (acts_with registry.now bound.now set enable (table_view table.now)) result }
+{
+    let commands = CommandsForm { registry, bound };
+    let command = optional(alloc, "command", Sequence::new(alloc), &commands, table)?;
+    Ok(Acts {
+        set,
+        enable,
+        command,
+    })
+}
+
 /// Reads the acts of a system on each row, which has the bound types.
 fn acts_over(
     alloc: Global,
@@ -94,33 +127,21 @@ fn acts_over(
 ) -> Result<Acts, ScenarioFault>
     ensures { Answers (acts registry.now bound.now (table_view table.now)) result }
 {
-    let assigns = ListOf {
-        most: MOST_ASSIGNS,
-        item: SystemText {
-            kind: AssignText,
-            registry,
-            bound,
-            made: &[],
-        },
+    let assigns = SystemText {
+        kind: AssignText,
+        registry,
+        bound,
+        made: &[],
     };
-    let switches = ListOf {
-        most: MOST_SWITCHES,
-        item: SystemText {
-            kind: SwitchText,
-            registry,
-            bound,
-            made: &[],
-        },
+    let switches = SystemText {
+        kind: SwitchText,
+        registry,
+        bound,
+        made: &[],
     };
-    let commands = CommandsForm { registry, bound };
-    let set = optional(alloc, "set", Sequence::new(alloc), &assigns, table)?;
-    let enable = optional(alloc, "enable", Sequence::new(alloc), &switches, table)?;
-    let command = optional(alloc, "command", Sequence::new(alloc), &commands, table)?;
-    Ok(Acts {
-        set,
-        enable,
-        command,
-    })
+    let set = list_under(alloc, "set", MOST_ASSIGNS, &assigns, table)?;
+    let enable = list_under(alloc, "enable", MOST_SWITCHES, &switches, table)?;
+    acts_with(alloc, registry, bound, set, enable, table)
 }
 
 /// Reads the acts of a system on each row that its clauses select.
@@ -198,8 +219,31 @@ fn system_of(heading: Heading, body: Body) -> SystemEntry
     }
 }
 
+/// Returns the system with this heading and this body, which can't be both first and last.
+fn placed_system(alloc: Global, heading: Heading, body: Body) -> Result<SystemEntry, ScenarioFault>
+    ensures { Answers (placed_system heading body) result }
+{
+    if heading.placement.is_in_two_bands() {
+        return Err(bad(alloc, Cause::BadShape));
+    }
+    Ok(system_of(heading, body))
+}
+
+/// Reads the body of a system with this heading.
+fn headed_system(
+    alloc: Global,
+    registry: &Registry,
+    heading: Heading,
+    table: &Table,
+) -> Result<SystemEntry, ScenarioFault>
+    ensures { Answers (headed_system registry.now heading (table_view table.now)) result }
+{
+    let body = body_of(alloc, registry, table)?;
+    placed_system(alloc, heading, body)
+}
+
 /// A system.
-#[derive(Drop)]
+#[derive(Clone, Copy)]
 pub(crate) struct SystemForm<'a> {
     /// The types.
     pub(crate) registry: &'a Registry,
@@ -214,10 +258,6 @@ impl<'a> Form for SystemForm<'a> {
     fn read(&self, alloc: Global, value: &Value) -> Result<SystemEntry, ScenarioFault> {
         let table = known_table(alloc, &KEYS, value)?;
         let heading = heading_of(alloc, table)?;
-        let body = body_of(alloc, self.registry, table)?;
-        if heading.placement.is_in_two_bands() {
-            return Err(bad(alloc, Cause::BadShape));
-        }
-        Ok(system_of(heading, body))
+        headed_system(alloc, self.registry, heading, table)
     }
 }

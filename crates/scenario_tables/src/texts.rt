@@ -71,23 +71,23 @@ pub(crate) trait Text {
 }
 
 /// An expression.
-#[derive(Drop)]
+#[derive(Clone, Copy)]
 pub(crate) struct ExprText;
 
 /// A reference.
-#[derive(Drop)]
+#[derive(Clone, Copy)]
 struct RefText;
 
 /// An assignment of a system.
-#[derive(Drop)]
+#[derive(Clone, Copy)]
 pub(crate) struct AssignText;
 
 /// A switch of a system.
-#[derive(Drop)]
+#[derive(Clone, Copy)]
 pub(crate) struct SwitchText;
 
 /// A command of a system or an event.
-#[derive(Drop)]
+#[derive(Clone, Copy)]
 pub(crate) struct ActText;
 
 impl Text for ExprText {
@@ -146,7 +146,7 @@ impl Text for ActText {
 }
 
 /// A text of a system.
-#[derive(Drop)]
+#[derive(Clone, Copy)]
 pub(crate) struct SystemText<'a, T> {
     /// The kind of text.
     pub(crate) kind: T,
@@ -218,7 +218,7 @@ pub(crate) fn spawn_ref(
 }
 
 /// A command of an event.
-#[derive(Drop)]
+#[derive(Clone, Copy)]
 pub(crate) struct OperationForm<'a> {
     /// The types.
     pub(crate) registry: &'a Registry,

@@ -1,17 +1,17 @@
 //! The table at the top of a scenario.
 ghost use Rattle.toml.specs.View.{table_view};
 ghost use Rattle.scenario_record.specs.Readings.{Answers, whole_path};
-ghost use Rattle.scenario_tables.specs.ReadTop.{numbers, spawns, schedule, top_keys, top_table};
+ghost use Rattle.scenario_tables.specs.ReadTop.{numbers, spawns, schedule_with, schedule, scenario_with, scenario_over, top_keys, top_table};
 
 use crate::events::EventForm;
-use crate::form::{ListOf, optional, required};
-use crate::groups::GROUPS;
+use crate::form::{list_under, optional, required};
+use crate::groups::GroupForm;
 use crate::keys::{NumberForm, only_known};
 use crate::spawns::SpawnForm;
 use crate::stages::{is_placed, is_unbuilt};
 use crate::systems::SystemForm;
 use crate::types::registry_at;
-use ent_types::limits::{MOST_EVENTS, MOST_FRAMES, MOST_SPAWNS, MOST_SYSTEMS};
+use ent_types::limits::{MOST_EVENTS, MOST_FRAMES, MOST_GROUPS, MOST_SPAWNS, MOST_SYSTEMS};
 use ent_types::{Registry, Sequence};
 use scenario_record::{
     EventEntry, GroupEntry, Scenario, ScenarioFault, SpawnEntry, SystemEntry, whole_fault,
@@ -70,11 +70,7 @@ fn spawns(
 ) -> Result<Sequence<SpawnEntry>, ScenarioFault>
     ensures { Answers (spawns registry.now (table_view table.now)) result }
 {
-    let spawns = ListOf {
-        most: MOST_SPAWNS,
-        item: SpawnForm { registry },
-    };
-    optional(alloc, "spawn", Sequence::new(alloc), &spawns, table)
+    list_under(alloc, "spawn", MOST_SPAWNS, &SpawnForm { registry }, table)
 }
 
 /// The groups, the systems and the events.
@@ -88,20 +84,17 @@ struct Schedule {
     event: Sequence<EventEntry>,
 }
 
-fn schedule_of(alloc: Global, registry: &Registry, table: &Table) -> Result<Schedule, ScenarioFault>
-    ensures { Answers (schedule registry.now (table_view table.now)) result }
+/// Reads the events of a scenario with these groups and systems.
+fn schedule_with(
+    alloc: Global,
+    registry: &Registry,
+    group: Sequence<GroupEntry>,
+    system: Sequence<SystemEntry>,
+    table: &Table,
+) -> Result<Schedule, ScenarioFault>
+    ensures { Answers (schedule_with registry.now group system (table_view table.now)) result }
 {
-    let systems = ListOf {
-        most: MOST_SYSTEMS,
-        item: SystemForm { registry },
-    };
-    let events = ListOf {
-        most: MOST_EVENTS,
-        item: EventForm { registry },
-    };
-    let group = optional(alloc, "group", Sequence::new(alloc), &GROUPS, table)?;
-    let system = optional(alloc, "system", Sequence::new(alloc), &systems, table)?;
-    let event = optional(alloc, "event", Sequence::new(alloc), &events, table)?;
+    let event = list_under(alloc, "event", MOST_EVENTS, &EventForm { registry }, table)?;
     Ok(Schedule {
         group,
         system,
@@ -109,12 +102,30 @@ fn schedule_of(alloc: Global, registry: &Registry, table: &Table) -> Result<Sche
     })
 }
 
-fn top_keys(alloc: Global, table: &Table) -> Result<Scenario, ScenarioFault>
-    ensures { Answers (top_keys (table_view table.now)) result }
+fn schedule_of(alloc: Global, registry: &Registry, table: &Table) -> Result<Schedule, ScenarioFault>
+    ensures { Answers (schedule registry.now (table_view table.now)) result }
 {
-    let numbers = numbers_of(alloc, table)?;
-    let registry = registry_at(alloc, table)?;
-    let spawn = spawns(alloc, &registry, table)?;
+    let group = list_under(alloc, "group", MOST_GROUPS, &GroupForm, table)?;
+    let system = list_under(
+        alloc,
+        "system",
+        MOST_SYSTEMS,
+        &SystemForm { registry },
+        table,
+    )?;
+    schedule_with(alloc, registry, group, system, table)
+}
+
+/// Reads the groups, the systems and the events of a scenario, whose other keys are these.
+fn scenario_with(
+    alloc: Global,
+    numbers: Numbers,
+    registry: Registry,
+    spawn: Sequence<SpawnEntry>,
+    table: &Table,
+) -> Result<Scenario, ScenarioFault>
+    ensures { Answers (scenario_with numbers registry spawn (table_view table.now)) result }
+{
     let schedule = schedule_of(alloc, &registry, table)?;
     Ok(Scenario {
         frames: numbers.frames,
@@ -128,6 +139,27 @@ fn top_keys(alloc: Global, table: &Table) -> Result<Scenario, ScenarioFault>
         placed: is_placed(table),
         unbuilt: is_unbuilt(table),
     })
+}
+
+/// Reads the spawns and all that follows them, in a scenario with these numbers and types.
+fn scenario_over(
+    alloc: Global,
+    numbers: Numbers,
+    registry: Registry,
+    table: &Table,
+) -> Result<Scenario, ScenarioFault>
+    ensures { Answers (scenario_over numbers registry (table_view table.now)) result }
+{
+    let spawn = spawns(alloc, &registry, table)?;
+    scenario_with(alloc, numbers, registry, spawn, table)
+}
+
+fn top_keys(alloc: Global, table: &Table) -> Result<Scenario, ScenarioFault>
+    ensures { Answers (top_keys (table_view table.now)) result }
+{
+    let numbers = numbers_of(alloc, table)?;
+    let registry = registry_at(alloc, table)?;
+    scenario_over(alloc, numbers, registry, table)
 }
 
 /// Reads the scenario of a document.

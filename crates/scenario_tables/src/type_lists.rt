@@ -152,7 +152,7 @@ fn type_of_item(
 }
 
 /// The types that the values of a list name, each once.
-#[derive(Drop)]
+#[derive(Clone, Copy)]
 pub(crate) struct TypeStep<'a> {
     /// The types.
     pub(crate) registry: &'a Registry,
@@ -178,7 +178,7 @@ impl<'a> Step for TypeStep<'a> {
 }
 
 /// A list of at most `most` types.
-#[derive(Drop)]
+#[derive(Clone, Copy)]
 pub(crate) struct TypesForm<'a> {
     /// The greatest number of types.
     pub(crate) most: usize,

@@ -22,10 +22,13 @@ use scenario_record::{Cause, ScenarioFault, bad, below_key};
 use std::alloc::Global;
 use toml::{Table, Value};
 
+/// The keys of a type, in reading order.
+const KEYS: [&str; 4] = ["name", "kind", "fields", "enableable"];
+
 // ---- the kind of a type
 
 /// The kind of a type.
-#[derive(Drop)]
+#[derive(Clone, Copy)]
 struct KindForm;
 
 impl Form for KindForm {
@@ -108,7 +111,7 @@ fn field_in(alloc: Global, earlier: &[FieldInfo], text: &str) -> Result<FieldInf
 }
 
 /// The fields of a type.
-#[derive(Drop)]
+#[derive(Clone, Copy)]
 struct FieldsForm;
 
 impl Step for FieldsForm {
@@ -188,8 +191,7 @@ fn type_in(alloc: Global, registry: &Registry, value: &Value) -> Result<TypeInfo
     ensures lawful { IfOk result (λ new. IsTrue (is_lawful_type new)) }
     ensures welcome { IfOk result (λ new. type_named registry.now new.name ≡ None) }
 {
-    let known = ["name", "kind", "fields", "enableable"];
-    let table = known_table(alloc, &known, value)?;
+    let table = known_table(alloc, &KEYS, value)?;
     let info = type_keys(alloc, table)?;
     new_type(alloc, registry, info)
 }
@@ -212,7 +214,7 @@ fn add(registry: &mut Registry, info: TypeInfo) -> Result<(), Memory>
 }
 
 /// The types of a scenario.
-#[derive(Drop)]
+#[derive(Clone, Copy)]
 struct RegistryForm;
 
 impl Step for RegistryForm {
