@@ -33,7 +33,7 @@ apply_registry capacity w e (Moves home cells dying) = refl
 apply_registry capacity w e Ends = refl
 apply_registry capacity w e (Makes home cells) = refl
 
-operate_registry : (capacity : List ℕ → ℕ) (w : World) (o : Operation) → (operate capacity w o).world.registry ≡ w.registry
+pub operate_registry : (capacity : List ℕ → ℕ) (w : World) (o : Operation) → (operate capacity w o).world.registry ≡ w.registry
 unfolding operate
 operate_registry capacity w (Create parts) = apply_registry capacity w null_entity (decide_create (sight capacity w) (by_type parts))
 operate_registry capacity w (On e a) = step (found e w.blocks)

@@ -93,7 +93,7 @@ found_by_index_perm capacity w l = by_index_perm w.made (placed w.blocks) few (i
         most true = omega arith
         most false = omega arith
 
--- ---- rows that stand by index
+-- ---- rows in the order of their indexes
 
 -- the first of these rows has this index, and each further one the next
 abbrev pub AreFrom : ℕ → List Found → Type 0

@@ -231,7 +231,7 @@ module _ (capacity : List ℕ → ℕ) (registry : List TypeInfo) (fits : HasRoo
         fine_if x.home (not (has_type x.home.types t)) (Skips NoComponent) _ (λ e. tt)
         (λ e. fine_values t (λ values. []) (λ c i is. cleared_fits registry t h.1 c is))
 
-  -- of parts that stand by rising type
+  -- of parts that are ordered by rising type
   pub create_fine : (home : Home) (parts : List (PartOf Value)) → ((p : PartOf Value) → In p parts → IsFitting registry p) → IsRising (map part_type parts)
       → IsFine home (decide_create s parts)
   create_fine home parts fit rising =

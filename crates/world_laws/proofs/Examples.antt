@@ -105,7 +105,7 @@ one = world (block (3 ∷ []) [] (mark 3 2 ∷ []) 2 (row (e 0 1) (cell 3 7 ∷ 
 
 -- ---- create
 
--- parts come in any order and stand by type; the shared type has its value in the block alone
+-- parts are given in any order and kept by type; the shared type has its value only in the block
 create_by_type : after empty (Create (part 6 1 ∷ part 5 2 ∷ part 3 4 ∷ []) ∷ [])
     ≡ world (block (3 ∷ 5 ∷ 6 ∷ []) (part 5 2 ∷ []) (mark 3 5 ∷ mark 5 5 ∷ mark 6 5 ∷ []) 5 (row (e 0 1) (cell 3 4 ∷ cell 6 1 ∷ []) ∷ []) ∷ []) [] 1
 unfolding operate enter
@@ -421,7 +421,7 @@ built_pair : built two registry pair 3
 unfolding built operate enter rewrite
 built_pair = refl
 
--- the ids of the world go to the scene's entities by index, and its blocks stand last, all marked
+-- the scene's entities get ids of the world in the order of their indexes; its blocks come last, all marked
 moved_pair : moved (world [] (e 5 3 ∷ []) 8) (record { registry = registry; blocks = two_blocks 1 (e 0 1) (e 1 1) (e 1 1); free = []; made = 2; first_entity_version = 1; moment = 1 })
     ≡ world (two_blocks 5 (e 5 3) (e 8 1) (e 8 1)) [] 9
 unfolding moved

@@ -24,7 +24,7 @@ AreOnce es = (e : Entity) → tally (same_entity e) es ≤ 1
 once_less : (e : Entity) (es : List Entity) → AreOnce (e ∷ es) → AreOnce es
 once_less e es once d = let o = once d in omega arith
 
--- one behind another is another one
+-- in a list of distinct entities the first differs from each later one
 pub apart : (d e : Entity) (es : List Entity) → AreOnce (e ∷ es) → In d es → same_entity d e ≡ false
 apart d e es once i = step (same_entity d e) refl (once d)
   where

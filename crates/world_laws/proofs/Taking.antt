@@ -1,4 +1,4 @@
--- What is given out when some ids are taken.
+-- The ids that are taken, and those that are left.
 use Rattle.std.proofs.Common.{◌≡◌, ℕ, zero, suc, ◌+◌, ◌-◌, ◌<◌, ◌≤◌, ◌⊎◌, inl, inr, nat_eq, nat_lt, Bool, true, false, List, [], ◌∷◌, length, drop, refl, sym, ap, ◌∙◌, subst, arith, eqb-true, eq-eqb, ltb-true}
 use Rattle.ent_types.specs.declared.entity.Entity.{Entity}
 use Rattle.system_version.specs.Versions.{IsVersion}
@@ -12,7 +12,7 @@ length_ids zero free made first = refl
 length_ids (suc n) [] made first = ap suc (length_ids n [] (made + 1) first)
 length_ids (suc n) (e ∷ es) made first = ap suc (length_ids n es made first)
 
--- beside other indexes, those that are given and those that are left are as distinct as those that were free
+-- with other indexes, those that are taken and those that are left are as distinct as those that were free
 pub ids_sound : (i n : ℕ) (free : List Entity) (made first others : ℕ) → others + tally (is_free_at i) free ≤ one_if (nat_lt i made)
     → others + (tally (is_free_at i) (next_ids n free made first) + tally (is_free_at i) (drop n free)) ≤ one_if (nat_lt i (made + (n - length free)))
 ids_sound i zero free made first others h =

@@ -75,7 +75,7 @@ with_out p t (s ∷ ts) h = step (nat_lt t s) (nat_eq s t) (with_out p t ts h)
     step false true rest = refl
     step false false rest = ap (λ us. cond (p s) (s ∷ us) us) rest
 
--- a type below all others stands first
+-- a type below all others comes first
 with_first : (t : ℕ) (ts : List ℕ) → ((u : ℕ) → In u ts → t < u) → with_type ts t ≡ t ∷ ts
 with_first t [] h = refl
 with_first t (s ∷ ts) h = step (nat_lt t s) (nat_eq s t) refl

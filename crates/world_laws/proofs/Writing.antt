@@ -1,4 +1,4 @@
--- What writing makes of the rows of a world: another one in the place of one.
+-- The rows of a world after a write: one row is replaced.
 use Rattle.std.proofs.Common.{◌≡◌, ℕ, ◌+◌, Bool, true, false, cond, List, [], ◌∷◌, ◌++◌, map, find, Option, Some, None, refl, sym, ap, ap₂, ◌∙◌, arith}
 use Rattle.ent_types.specs.declared.entity.Entity.{Entity}
 use Rattle.world_model.specs.Members.{one_if, tally}
