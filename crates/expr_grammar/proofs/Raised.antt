@@ -93,7 +93,7 @@ module _ (s : Scope) (limit up : ℕ) (above : limit ≤ up) where
   no_open (x ∷ below) bs h = absurd (false≢true h)
 
 module _ (s : Scope) (lawful : IsLawful s) (limit up : ℕ) (above : limit ≤ up) where
-  -- a symbol that ends before the token does so under a greater limit, but for a name before an opening parenthesis
+  -- a symbol that ends before the token does so under a greater limit, except a name before an opening parenthesis
   passed : (x : Symbol) (t : Token) (below : List Symbol) (bs : List Built) (st : State) → may_end x ≡ true → Needs s lawful limit x below → take s limit x t ≡ None
       → settle s limit below bs t ≡ Some st → take s up x t ≡ None
   unfolding take may_end

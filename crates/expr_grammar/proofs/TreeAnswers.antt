@@ -1,4 +1,4 @@
--- What the readers of expressions, references, assigns and switches tell is what is answered.
+-- What the readers of expressions, references, assignments and switches return is the answer.
 use Rattle.std.proofs.Common.{ℕ, ◌≡◌, List, [], ◌∷◌, false, Ok, Err, refl, ap, ◌∙◌}
 use Rattle.expr_grammar.specs.declared.fault.ExprFault.{ExprFault}
 use Rattle.expr_grammar.specs.declared.symbol.Symbol.TheVariants as wait

@@ -1,5 +1,6 @@
 -- The result for a text in its scope, as a function: what the text means, or its first fault.
 use Rattle.std.specs.Prelude.{ℕ, ◌≡◌, List, [], ◌∷◌, nat_lt, Option, None, Some, if◌then◌else◌, length, pos, false, Result, Ok, Err}
+use Rattle.ent_types.specs.declared.limits.TheConstants.{LONGEST_TEXT, MOST_NESTING}
 use Rattle.expr_tokens.specs.Tokens.{Placed}
 use Rattle.expr_tokens.specs.Lexing.{tokens_of}
 use Rattle.ent_types.specs.declared.entity.TypeId.{TypeId}
@@ -41,13 +42,13 @@ stopped s limit st (p ∷ rest) end =
     goes_on (settle s limit st.waits st.built p.token) (record { cause = cause_at s limit st.waits st.built p.token; at = p.at })
     (λ next. stopped s limit next rest end)
 
--- what a text of at most 1,024 bytes builds that is read from these symbols, or its first fault
+-- what a text builds that is read from these symbols, or its first fault
 unfoldable pub answer : Scope → List Symbol → List ℕ → Result (List Built) ExprFault
 answer s waits text =
-    if nat_lt 1024 (length text) then Err (record { cause = TooLong; at = 1024 })
-    else stopped s 64 (record { waits = waits; built = [] }) (tokens_of text) (length text)
+    if nat_lt LONGEST_TEXT (length text) then Err (record { cause = TooLong; at = LONGEST_TEXT })
+    else stopped s MOST_NESTING (record { waits = waits; built = [] }) (tokens_of text) (length text)
 
--- The tree that was built. What is built from the symbol of its sort has its shape, so that the other clauses tell nothing.
+-- The tree that was built. What is built from the symbol of its sort has its shape, so the other clauses are never used.
 abbrev pub the_expr : List Built → Expr
 the_expr (built.Int e ∷ bs) = e
 the_expr bs = exprs.Number (pos 0)

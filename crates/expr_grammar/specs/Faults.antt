@@ -41,14 +41,14 @@ module _ {Tree Meaning : Type 0} (texts : Texts Tree Meaning) where
     pub means : texts.means tree ≡ meaning
     pub only : (other : Tree) → texts.fits limit other → texts.spelled other ≡ tokens → other ≡ tree
 
-  -- a number that is too large, for every place or for this one, where another number may stand
+  -- a number that is too large, for every place or for this one, where another number is allowed
   abbrev pub IsOutOfRange : ℕ → List Token → Token → Type 0
   IsOutOfRange limit front (number n) = (2 ^ 63 ≤ n) ⊎ CanGoOn limit (front ++ number 0 ∷ [])
   IsOutOfRange limit front (word name) = ⊥
   IsOutOfRange limit front (sign s) = ⊥
   IsOutOfRange limit front bad = ⊥
 
-  -- but for the greatest nesting a text could go on so
+  -- with a greater limit of nesting a text could go on with this token
   abbrev pub IsTooDeep : ℕ → List Token → Token → Type 0
   IsTooDeep limit front t = CanGoOn (limit + 1) (front ++ t ∷ [])
 

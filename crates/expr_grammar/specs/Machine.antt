@@ -235,7 +235,7 @@ unfoldable pub take : Scope → ℕ → Symbol → Token → Option (List Symbol
 take s limit (wait.Level level d) t = map_some (λ new. new ++ tails level d) (take_operand s limit d t)
 take s limit symbol t = take_other s limit symbol t
 
--- a symbol that may stand for no token
+-- a symbol that may be left out
 unfoldable pub may_end : Symbol → Bool
 may_end (wait.Tail level d) = true
 may_end (wait.Named v ty call d) = is_some v

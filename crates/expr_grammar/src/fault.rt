@@ -25,6 +25,6 @@ pub enum ExprCause {
 pub struct ExprFault {
     /// Why the text is refused.
     pub cause: ExprCause,
-    /// The byte that is at fault, from 0.
+    /// The place of the invalid token, in bytes from 0.
     pub at: u32,
 }

@@ -30,8 +30,8 @@ fn step<N: Names>(
     operands: &mut Stack<Built>,
     lexeme: Lexeme<'_>,
 ) -> Result<(), ExprFault>
-    ensures taken { OnOk result (Follows (settle (N.scope names.now) 64 (symbols expected.old) operands.old (token_seen lexeme.entry.token)) (record { waits = symbols expected.new; built = operands.new })) }
-    ensures refused { IfErr result (λ f. OutOfMemory f ⊎ Halts (N.scope names.now) 64 (record { waits = symbols expected.old; built = operands.old }) (seen lexeme.entry ∷ []) 0 f.cause f.at) }
+    ensures taken { OnOk result (Follows (settle (N.scope names.now) MOST_NESTING (symbols expected.old) operands.old (token_seen lexeme.entry.token)) (record { waits = symbols expected.new; built = operands.new })) }
+    ensures refused { IfErr result (λ f. OutOfMemory f ⊎ Halts (N.scope names.now) MOST_NESTING (record { waits = symbols expected.old; built = operands.old }) (seen lexeme.entry ∷ []) 0 f.cause f.at) }
 {
     match settle(alloc, names, MOST_NESTING, expected, operands, lexeme.token) {
         Ok(taken) => {
@@ -79,7 +79,7 @@ fn read_tokens<N: Names>(
     lexemes: &[Lexeme<'_>],
     end: u32,
 ) -> Result<Stack<Built>, ExprFault>
-    ensures { MatchResult result (λ ws. run (N.scope names.now) 64 (symbols expected) [] (map (λ p. p.token) (map seen lexemes.now)) ≡ Some ws) (λ f. OutOfMemory f ⊎ Stops (N.scope names.now) 64 (symbols expected) (map seen lexemes.now) end f.cause f.at) }
+    ensures { MatchResult result (λ ws. run (N.scope names.now) MOST_NESTING (symbols expected) [] (map (λ p. p.token) (map seen lexemes.now)) ≡ Some ws) (λ f. OutOfMemory f ⊎ Stops (N.scope names.now) MOST_NESTING (symbols expected) (map seen lexemes.now) end f.cause f.at) }
 {
     let mut expected = expected;
     let mut operands = Stack::new(alloc);

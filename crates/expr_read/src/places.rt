@@ -1,5 +1,6 @@
 //! Types and fields, by their names.
 ghost use Rattle.std.specs.Prelude.{◌≡◌, ◌<◌, ◌≤◌, length, position, IfSome};
+ghost use Rattle.ent_types.specs.declared.limits.TheConstants.{MOST_TYPES};
 ghost use Rattle.ent_types.specs.Registries.{type_id_named, type_named};
 ghost use Rattle.ent_types.specs.Types.{same_name};
 
@@ -9,7 +10,7 @@ use ent_types::{FieldInfo, Name, Registry, TypeId};
 /// longer than any name.
 pub(crate) fn type_of(word: &[u8], registry: &Registry) -> Option<TypeId>
     ensures value { result ≡ type_id_named registry.now word.now }
-    ensures within { IfSome result (λ ty. ty.0 < 256) }
+    ensures within { IfSome result (λ ty. ty.0 < MOST_TYPES) }
 {
     match Name::of(word) {
         Some(name) => registry.find(&name),
@@ -20,7 +21,7 @@ pub(crate) fn type_of(word: &[u8], registry: &Registry) -> Option<TypeId>
 /// Returns the type with this name, after a walk over the types.
 fn walk_to(word: &[u8], registry: &Registry) -> Option<TypeId>
     ensures value { result ≡ type_id_named registry.now word.now }
-    ensures within { IfSome result (λ ty. ty.0 < 256) }
+    ensures within { IfSome result (λ ty. ty.0 < MOST_TYPES) }
 {
     let at = place_of(word, registry)?;
     Some(TypeId(at as u16))
@@ -31,7 +32,7 @@ fn walk_to(word: &[u8], registry: &Registry) -> Option<TypeId>
 fn place_of(word: &[u8], registry: &Registry) -> Option<usize>
     ensures place { result ≡ type_named registry.now word.now }
     ensures within { IfSome result (λ at. at < length registry.now) }
-    ensures most { length registry.now ≤ 256 }
+    ensures most { length registry.now ≤ MOST_TYPES }
 {
     registry
         .types()

@@ -1,5 +1,6 @@
 //! What the names of a text mean, by the place of the text.
 ghost use Rattle.std.specs.Prelude.{◌≡◌, ◌<◌, ◌≤◌, ◌&&◌, not, length};
+ghost use Rattle.ent_types.specs.declared.limits.TheConstants.{MOST_TYPES};
 ghost use Rattle.expr_read.specs.ScopeOf.{is_system, is_known, is_own, may_name, is_open, may_stand, scope_of};
 ghost use Rattle.expr_grammar.specs.CommandScopes.{ServesCommands};
 ghost use Rattle.expr_grammar.specs.Scopes.{IsLawful};
@@ -74,14 +75,14 @@ impl Scope<'_> {
     /// `true` if the registry has the type.
     fn is_known(&self, ty: TypeId) -> bool
         ensures value { result ≡ is_known self.now.registry.now ty }
-        ensures most { length self.now.registry.now ≤ 256 }
+        ensures most { length self.now.registry.now ≤ MOST_TYPES }
     {
         usize::from(ty.0) < self.registry.len()
     }
 
     /// `true` if each row that the system visits has the type.
     fn is_own(&self, ty: TypeId) -> bool
-        requires { ty.0 < 256 }
+        requires { ty.0 < MOST_TYPES }
         ensures { result ≡ is_own self.now.place self.now.bound.now ty }
     {
         self.place.is_system() && self.bound.has(ty)
@@ -89,7 +90,7 @@ impl Scope<'_> {
 
     /// `true` if fields of a type of this kind fit the use.
     fn may_name(&self, role: FieldUse, ty: TypeId, kind: Kind) -> bool
-        requires { ty.0 < 256 }
+        requires { ty.0 < MOST_TYPES }
         ensures { result ≡ may_name self.now.place self.now.bound.now role ty kind }
     {
         match role {
@@ -108,7 +109,7 @@ impl Scope<'_> {
 
     /// `true` if a type that is known fits the use.
     fn may_stand(&self, role: TypeUse, ty: TypeId, info: &TypeInfo) -> bool
-        requires { ty.0 < 256 }
+        requires { ty.0 < MOST_TYPES }
         ensures { result ≡ may_stand self.now.place self.now.bound.now role ty info.now }
     {
         match role {

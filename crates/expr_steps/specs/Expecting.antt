@@ -119,7 +119,7 @@ abbrev pub takes : Scope → ℕ → Expected → Token → Option (List Symbol)
 takes s limit (expect.Level level depth) t = map_some (λ new. new ++ tails level depth) (take_operand s limit depth t)
 takes s limit e t = take_rest s limit e t
 
--- `true` if an expected thing may stand for no token; and what it builds then
+-- `true` if an expected thing may be left out; and what it builds then
 abbrev pub ends : Expected → Bool
 ends (expect.Operators level count depth) = true
 ends e = may_end (symbol_of e)
@@ -237,7 +237,7 @@ expected_of (Other m) = rest_of m
 
 -- ---- steps
 
--- where a token is accepted: the expected thing that accepts it after so many others that end, and what it leaves
+-- where a token is accepted: the expected thing that accepts it, how many others end before it, and what it leaves
 abbrev pub placed : Option Place → List Expected → List Built → Option State
 placed None es bs = None
 placed (Some p) es bs = Some (record { waits = left_of p.accepted ++ symbols (drop (suc p.above) es); built = reduced_first p.above es bs })

@@ -1,5 +1,5 @@
 //! Why a token isn't taken.
-ghost use Rattle.std.specs.Prelude.{◌≡◌, ◌^◌, ◌||◌, List, is_some, nat_le};
+ghost use Rattle.std.specs.Prelude.{◌≡◌, ◌+◌, ◌^◌, ◌||◌, List, is_some, nat_le};
 ghost use Rattle.expr_tokens.specs.Tokens.{number};
 ghost use Rattle.expr_tokens.specs.Seen.{token_seen};
 ghost use Rattle.expr_grammar.specs.declared.symbol.Built.{Built};
@@ -35,7 +35,7 @@ fn deep_or<N: Names>(
     token: Token<'_>,
     cause: ExprCause,
 ) -> ExprCause
-    ensures { (bs : List Built) → result ≡ deep_or (is_some (settle (N.scope names.now) 65 (symbols expected.now) bs (token_seen token.entry))) cause }
+    ensures { (bs : List Built) → result ≡ deep_or (is_some (settle (N.scope names.now) (MOST_NESTING + 1) (symbols expected.now) bs (token_seen token.entry))) cause }
 {
     if takes(names, DEEPER, expected, token) {
         ExprCause::TooDeep
@@ -46,7 +46,7 @@ fn deep_or<N: Names>(
 
 /// `true` if a number is too large for every place, or for this one.
 fn is_out_of_range<N: Names>(names: &N, expected: &Stack<Expected>, n: u64) -> bool
-    ensures { (bs : List Built) → result ≡ (nat_le (2 ^ 63) n || is_some (settle (N.scope names.now) 64 (symbols expected.now) bs (number 0))) }
+    ensures { (bs : List Built) → result ≡ (nat_le (2 ^ 63) n || is_some (settle (N.scope names.now) MOST_NESTING (symbols expected.now) bs (number 0))) }
 {
     if n >= INT_END {
         return true;
@@ -56,7 +56,7 @@ fn is_out_of_range<N: Names>(names: &N, expected: &Stack<Expected>, n: u64) -> b
 
 /// Returns the cause at a number that isn't taken.
 fn number_cause<N: Names>(names: &N, expected: &Stack<Expected>, n: u64) -> ExprCause
-    ensures { (bs : List Built) → result ≡ cause_at (N.scope names.now) 64 (symbols expected.now) bs (number n) }
+    ensures { (bs : List Built) → result ≡ cause_at (N.scope names.now) MOST_NESTING (symbols expected.now) bs (number n) }
 {
     if is_out_of_range(names, expected, n) {
         ExprCause::NumberRange
@@ -67,7 +67,7 @@ fn number_cause<N: Names>(names: &N, expected: &Stack<Expected>, n: u64) -> Expr
 
 /// Returns the cause at a token that isn't taken.
 pub fn cause_at<N: Names>(names: &N, expected: &Stack<Expected>, token: Token<'_>) -> ExprCause
-    ensures { (bs : List Built) → result ≡ cause_at (N.scope names.now) 64 (symbols expected.now) bs (token_seen token.entry) }
+    ensures { (bs : List Built) → result ≡ cause_at (N.scope names.now) MOST_NESTING (symbols expected.now) bs (token_seen token.entry) }
 {
     match token {
         Token::Word(_) => deep_or(names, expected, token, ExprCause::UnknownName),

@@ -193,7 +193,7 @@ fn push_rest(expected: &mut Stack<Expected>, left: &Move) -> Result<(), Memory>
     }
 }
 
-/// Expects what an accepted token leaves, in place of the expected thing that accepted it.
+/// Expects what an accepted token leaves, instead of the expected thing that accepted it.
 fn push_accepted(expected: &mut Stack<Expected>, accepted: &Accepted) -> Result<(), Memory>
     ensures { OnOk result (symbols expected.new ≡ expected_of accepted.now ++ symbols expected.old) }
 {

@@ -2,7 +2,7 @@
 //!
 //! It is a predictive parser with two stacks and no recursion. The stack of what is *expected* says how the text may go
 //! on. The stack of *operands* has the trees that were read. A token is *accepted* by the first expected thing that it
-//! may begin, after others that may stand for no token. The parser then *expands* that thing, and *reduces* operands to
+//! may begin, after others that may be left out. The parser then *expands* that thing, and *reduces* operands to
 //! trees as expected things end. `expr_machine` does these steps over the tokens of a text.
 #![tactic(auto)]
 

@@ -5,7 +5,7 @@ use ent_types::{Name, TypeId, TypeSet};
 use expr_grammar::{Call, FieldUse, Verb};
 use expr_trees::{BinaryOp, RefExpr, UnaryOp};
 
-/// What a token leaves in place of the expected thing that accepts it. It is decided before anything changes, so that
+/// What a token leaves instead of the expected thing that accepts it. It is decided before anything changes, so that
 /// a token that nothing accepts leaves the parser as it was.
 #[derive(Clone, Copy)]
 pub enum Move {

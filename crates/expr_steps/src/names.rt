@@ -1,5 +1,6 @@
 //! What the names of a text mean.
 ghost use Rattle.std.specs.Prelude.{◌≡◌, ◌<◌, IfSome};
+ghost use Rattle.ent_types.specs.declared.limits.TheConstants.{MOST_FIELDS, MOST_TYPES};
 ghost use Rattle.expr_grammar.specs.Machine.{when, ids, kind_at, type_left};
 ghost use Rattle.expr_grammar.specs.Scopes.{Scope};
 
@@ -55,10 +56,10 @@ pub trait Names {
     /// Returns the type of this name, if a part of `create` may name it and it isn't in the set.
     fn type_left(&self, used: TypeSet, name: &[u8]) -> Option<TypeId>
         ensures value { result ≡ type_left (scope self.now) used name.now }
-        ensures within { IfSome result (λ ty. ty.0 < 256) };
+        ensures within { IfSome result (λ ty. ty.0 < MOST_TYPES) };
 
     /// Returns whether the type's field at this place is a ref field, if there is such a field.
     fn kind_at(&self, ty: TypeId, at: u8) -> Option<bool>
         ensures value { result ≡ kind_at ((scope self.now).refs ty) at }
-        ensures within { IfSome result (λ kind. at < 64) };
+        ensures within { IfSome result (λ kind. at < MOST_FIELDS) };
 }

@@ -16,7 +16,7 @@ use expr_trees::{BinaryOp, CommandText, Expr, PartExpr, RefExpr, UnaryOp, ValueE
 use sqlite_items::Boxed;
 use std::alloc::Global;
 
-/// `true` if an expected thing may stand for no token.
+/// `true` if an expected thing may be left out.
 #[tactic(auto, unfolding(expr_grammar::specs::Machine::may_end))]
 pub(crate) fn ends(expected: &Expected) -> bool
     ensures { result ≡ ends expected.now }
@@ -49,7 +49,7 @@ pub(crate) fn ends(expected: &Expected) -> bool
     }
 }
 
-/// Builds what an expected thing builds that stands for no token.
+/// Builds what an expected thing builds if it is left out.
 #[tactic(auto, unfolding(expr_grammar::specs::Machine::ended))]
 pub(crate) fn end(
     alloc: Global,

@@ -65,7 +65,7 @@ pub fn find<N: Names>(
     None
 }
 
-/// `true` if everything that is expected may stand for no token.
+/// `true` if everything that is expected may be left out.
 pub fn may_finish(expected: &Stack<Expected>) -> bool
     ensures { (bs : List Built) → finish (symbols expected.now) bs ≡ (if result then Some (reduced_first (length expected.now) expected.now bs) else None) }
 {

@@ -1,5 +1,6 @@
 //! How the places of a command accept names and signs.
 ghost use Rattle.std.specs.Prelude.{◌≡◌, ◌<◌, [], ◌∷◌, codes};
+ghost use Rattle.ent_types.specs.declared.limits.TheConstants.{MOST_TYPES};
 ghost use Rattle.ent_types.specs.Types.{same_name};
 ghost use Rattle.expr_tokens.specs.declared.sign.Sign.TheVariants as signs;
 ghost use Rattle.expr_grammar.specs.declared.symbol.Symbol.TheVariants as wait;
@@ -137,7 +138,7 @@ pub(crate) fn part<N: Names>(names: &N, role: TypeUse, name: &[u8]) -> Option<Mo
 
 /// Returns what follows the type of a part of `create`.
 fn joined_part<N: Names>(names: &N, used: TypeSet, ty: TypeId) -> Move
-    requires { ty.0 < 256 }
+    requires { ty.0 < MOST_TYPES }
     ensures { left result ≡ joined_part (N.scope names.now) used ty }
 {
     let used = used.with(ty);

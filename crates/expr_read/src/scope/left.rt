@@ -1,6 +1,7 @@
 //! Names that a command may make, and types and fields that are left for parts.
 ghost use Rattle.std.specs.Prelude.{◌≡◌, ◌<◌, ◌||◌, ◌&&◌, not, length, map, codes, IfSome};
 ghost use Rattle.std.specs.List.{list_any};
+ghost use Rattle.ent_types.specs.declared.limits.TheConstants.{MOST_TYPES};
 ghost use Rattle.ent_types.specs.Types.{same_name, is_ref};
 ghost use Rattle.expr_grammar.specs.Machine.{ids, kind_at};
 ghost use Rattle.expr_read.specs.ScopeOf.{allows_of, is_listed, has_type_left};
@@ -38,7 +39,7 @@ pub(super) fn kind_at(fields: &[FieldInfo], at: usize) -> Option<bool>
 
 /// `true` if the type isn't in the set.
 pub(super) fn is_left(used: TypeSet, ty: TypeId) -> bool
-    requires { ty.0 < 256 }
+    requires { ty.0 < MOST_TYPES }
     ensures { result ≡ not (is_listed (ids used) ty) }
 {
     !used.has(ty)
@@ -47,7 +48,7 @@ pub(super) fn is_left(used: TypeSet, ty: TypeId) -> bool
 impl Scope<'_> {
     /// `true` if the type fits the use and isn't in the set.
     fn may_join(&self, role: TypeUse, used: TypeSet, ty: TypeId) -> bool
-        requires { ty.0 < 256 }
+        requires { ty.0 < MOST_TYPES }
         ensures { result ≡ (allows_of self.now.registry.now self.now.place self.now.bound.now role ty && not (is_listed (ids used) ty)) }
     {
         self.allows(role, ty) && is_left(used, ty)
