@@ -59,6 +59,27 @@ module _ {T : Type 0} where
       → get_elem? views seat ≡ some v → 0 < v.weight → v.pieces ≡ kept.pieces
   agrees n word homes views kept seat v at weighs = ⊎_elim (λ e. let w = ap (λ u. u.weight) e in absurd (omega arith)) (λ t. t.0) (kept.agree seat v at)
 
+  -- a view that changed neither its pieces nor its weight still agrees, and so does each other view
+  agree_after : (n word : ℕ) (homes : List (mathlib.Core.Option.Option (Option T))) (views : List (View T)) (seat : ℕ) (v w : View T) (kept : Keeps n word homes views)
+      → get_elem? views seat ≡ some v → 0 < v.weight → w.pieces ≡ v.pieces → w.weight ≡ v.weight → (i : ℕ) (u : View T) → get_elem? (set views seat w) i ≡ some u
+      → (u ≡ spent) ⊎ ((u.pieces ≡ kept.pieces) × (0 < u.weight))
+  agree_after n word homes views seat v w kept at weighs pieces weight i u e =
+      ⊎_elim
+      (λ t. inr (ap (λ x. x.pieces) (sym t.1) ∙ (pieces ∙ agrees n word homes views kept seat v at weighs), subst (λ x. 0 < x.weight) t.1 (subst (λ k. 0 < k) (sym weight) weighs)))
+      (λ t. kept.agree i u t.1)
+      (at_set views seat i w u e)
+
+  -- whose view it is, after one view changed and one came in
+  whose : (views : List (View T)) (seat : ℕ) (l r : View T) (i : ℕ) (u : View T) → get_elem? (set views seat l ++ r ∷ []) i ≡ some u → (l ≡ u) ⊎ ((r ≡ u) ⊎ (get_elem? views i ≡ some u))
+  whose views seat l r i u e =
+      ⊎_elim (λ t. ⊎_elim (λ s. inl s.1) (λ s. inr (inr s.1)) (at_set views seat i l u t)) (λ t. inr (inl t)) (at_snoc (set views seat l) r u i e)
+
+  -- a number of all views stays, where two views share that of one
+  total-split : (f : View T → ℕ) (views : List (View T)) (seat : ℕ) (v l r : View T) → get_elem? views seat ≡ some v → f l + f r ≡ f v
+      → total f (set views seat l ++ r ∷ []) ≡ total f views
+  total-split f views seat v l r at same =
+      let t = total-set f views seat v l at in let u = total-snoc f (set views seat l) r in omega arith
+
   -- what a draw finds where a piece is left
   pub record Found (n word : ℕ) (homes : List (mathlib.Core.Option.Option (Option T))) (views : List (View T)) (seat : ℕ) (v : View T) : Type 0 where
     pub piece : T
@@ -83,10 +104,7 @@ module _ {T : Type 0} where
       record {
         pieces = kept.pieces;
         count = kept.count;
-        agree = λ i u e. ⊎_elim
-            (λ t. inr (ap (λ x. x.pieces) (sym t.1) ∙ agrees n word homes views kept seat v at weighs, subst (λ x. 0 < x.weight) t.1 weighs))
-            (λ t. kept.agree i u t.1)
-            (at_set views seat i w u e);
+        agree = agree_after n word homes views seat v w kept at weighs refl refl;
         weights = (let t = total-set (λ x. x.weight) views seat v w at in let k = kept.weights in omega arith);
         word_is = (let t = total-set (λ x. length x.mine) views seat v w at in let u = total-set (λ x. x.ends) views seat v w at in let k = kept.word_is in omega arith);
         drawn = (let t = total-set (λ x. length x.mine) views seat v w at in let k = kept.drawn in omega arith);
@@ -131,10 +149,7 @@ module _ {T : Type 0} where
       record {
         pieces = kept.pieces;
         count = kept.count;
-        agree = λ i u e. ⊎_elim
-            (λ t. inr (ap (λ x. x.pieces) (sym t.1) ∙ agrees n word homes views kept seat v at weighs, subst (λ x. 0 < x.weight) t.1 weighs))
-            (λ t. kept.agree i u t.1)
-            (at_set views seat i w u e);
+        agree = agree_after n word homes views seat v w kept at weighs refl refl;
         weights = (let t = total-set (λ x. x.weight) views seat v w at in let k = kept.weights in omega arith);
         word_is = (let t = total-set (λ x. length x.mine) views seat v w at in let u = total-set (λ x. x.ends) views seat v w at in let k = kept.word_is in omega arith);
         drawn = (let t = total-set (λ x. length x.mine) views seat v w at in let k = kept.drawn in omega arith);
@@ -153,10 +168,7 @@ module _ {T : Type 0} where
   split_keeps n word homes views seat v kept at weighs =
       let l : View T = after_split v in
       let r : View T = split_off v in
-      let all : (f : View T → ℕ) → f l + f r ≡ f v → total f (set views seat l ++ r ∷ []) ≡ total f views =
-      λ f same. (let t = total-set f views seat v l at in let u = total-snoc f (set views seat l) r in omega arith) in
-      let whose : (i : ℕ) (u : View T) → get_elem? (set views seat l ++ r ∷ []) i ≡ some u → (l ≡ u) ⊎ ((r ≡ u) ⊎ (get_elem? views i ≡ some u)) =
-      λ i u e. ⊎_elim (λ t. ⊎_elim (λ s. inl s.1) (λ s. inr (inr s.1)) (at_set views seat i l u t)) (λ t. inr (inl t)) (at_snoc (set views seat l) r u i e) in
+      let all : (f : View T → ℕ) → f l + f r ≡ f v → total f (set views seat l ++ r ∷ []) ≡ total f views = λ f same. total-split f views seat v l r at same in
       let agreed : v.pieces ≡ kept.pieces = agrees n word homes views kept seat v at (omega arith) in
       record {
         pieces = kept.pieces;
@@ -164,7 +176,7 @@ module _ {T : Type 0} where
         agree = λ i u e. ⊎_elim
             (λ t. inr (ap (λ x. x.pieces) (sym t) ∙ agreed, subst (λ x. 0 < x.weight) t (omega arith)))
             (λ s. ⊎_elim (λ t. inr (ap (λ x. x.pieces) (sym t) ∙ agreed, subst (λ x. 0 < x.weight) t (lit< tt))) (λ t. kept.agree i u t) s)
-            (whose i u e);
+            (whose views seat l r i u e);
         weights = all (λ x. x.weight) (omega arith) ∙ kept.weights;
         word_is = (let a = all (λ x. length x.mine) (omega arith) in let b = all (λ x. x.ends) (omega arith) in let k = kept.word_is in omega arith);
         drawn = all (λ x. length x.mine) (omega arith) ∙ kept.drawn;
@@ -172,7 +184,7 @@ module _ {T : Type 0} where
         ended = λ i u e over. ⊎_elim
             (λ t. kept.ended seat v at (ap (λ x. x.ended) t ∙ over))
             (λ s. ⊎_elim (λ t. kept.ended seat v at (ap (λ x. x.ended) t ∙ over)) (λ t. kept.ended i u t over) s)
-            (whose i u e);
+            (whose views seat l r i u e);
         few_ends = (let a = all weight_going (going-split v.ended v.weight weighs) in let b = all (λ x. x.ends) (omega arith) in let k = kept.few_ends in omega arith);
         home = kept.home;
       }
@@ -181,14 +193,11 @@ module _ {T : Type 0} where
   pub move_keeps : (n word : ℕ) (homes : List (mathlib.Core.Option.Option (Option T))) (views : List (View T)) (seat : ℕ) (v : View T) → Keeps n word homes views
       → get_elem? views seat ≡ some v → Keeps n word homes (set views seat spent ++ v ∷ [])
   move_keeps n word homes views seat v kept at =
-      let all : (f : View T → ℕ) → f spent ≡ 0 → total f (set views seat spent ++ v ∷ []) ≡ total f views =
-      λ f same. (let t = total-set f views seat v spent at in let u = total-snoc f (set views seat spent) v in omega arith) in
-      let whose : (i : ℕ) (u : View T) → get_elem? (set views seat spent ++ v ∷ []) i ≡ some u → (spent ≡ u) ⊎ ((v ≡ u) ⊎ (get_elem? views i ≡ some u)) =
-      λ i u e. ⊎_elim (λ t. ⊎_elim (λ s. inl s.1) (λ s. inr (inr s.1)) (at_set views seat i spent u t)) (λ t. inr (inl t)) (at_snoc (set views seat spent) v u i e) in
+      let all : (f : View T → ℕ) → f spent ≡ 0 → total f (set views seat spent ++ v ∷ []) ≡ total f views = λ f same. total-split f views seat v spent v at (omega arith) in
       record {
         pieces = kept.pieces;
         count = kept.count;
-        agree = λ i u e. ⊎_elim (λ t. inl (sym t)) (λ s. ⊎_elim (λ t. kept.agree seat u (at ∙ ap some t)) (λ t. kept.agree i u t) s) (whose i u e);
+        agree = λ i u e. ⊎_elim (λ t. inl (sym t)) (λ s. ⊎_elim (λ t. kept.agree seat u (at ∙ ap some t)) (λ t. kept.agree i u t) s) (whose views seat spent v i u e);
         weights = all (λ x. x.weight) refl ∙ kept.weights;
         word_is = (let a = all (λ x. length x.mine) refl in let b = all (λ x. x.ends) refl in let k = kept.word_is in omega arith);
         drawn = all (λ x. length x.mine) refl ∙ kept.drawn;
@@ -196,7 +205,7 @@ module _ {T : Type 0} where
         ended = λ i u e over. ⊎_elim
             (λ t. let s = ap (λ x. x.ended) t in absurd (cc))
             (λ s. ⊎_elim (λ t. kept.ended seat u (at ∙ ap some t) over) (λ t. kept.ended i u t over) s)
-            (whose i u e);
+            (whose views seat spent v i u e);
         few_ends = (let a = all weight_going refl in let b = all (λ x. x.ends) refl in let k = kept.few_ends in omega arith);
         home = kept.home;
       }

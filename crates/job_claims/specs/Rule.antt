@@ -3,6 +3,7 @@ use Rattle.std.specs.Prelude.{◌≡◌, ℕ, ◌+◌, ◌<◌, ◌≤◌, ◌�
 use mathlib.Core.Option.{some}
 use lib.ListN.{get_elem?}
 use Rattle.atomic_table.specs.Table.{State, Me, Step}
+use Rattle.ent_types.specs.declared.limits.TheConstants.{MOST_WORKERS}
 use Rattle.job_claims.specs.declared.seat.Drawn.{Drawn}
 use Rattle.job_claims.specs.declared.seat.Drawn.TheVariants.{Piece, Ended}
 use Rattle.job_claims.specs.declared.seat.View.{View}
@@ -35,15 +36,15 @@ module _ {T : Type 0} where
     pub count : length pieces ≡ n
     -- all views that aren't spent agree about the pieces, and have a weight
     pub agree : (seat : ℕ) (v : View T) → get_elem? views seat ≡ some v → (v ≡ spent) ⊎ ((v.pieces ≡ pieces) × (0 < v.weight))
-    pub weights : total (λ v. v.weight) views ≡ 64
+    pub weights : total (λ v. v.weight) views ≡ MOST_WORKERS
     -- the word counts the draws, those that found a piece and those that found none
     pub word_is : word ≡ total (λ v. length v.mine) views + total (λ v. v.ends) views
     pub drawn : total (λ v. length v.mine) views ≡ min n word
     -- the numbers below n and below the word are each in one view, once, and no others are
     pub once : (x : ℕ) → total (λ v. times x v.mine) views ≡ once_below x (min n word)
     pub ended : (seat : ℕ) (v : View T) → get_elem? views seat ≡ some v → v.ended ≡ true → n < word
-    -- a seat ends at most once for each weight that it has, so the word is at most n + 64
-    pub few_ends : total weight_going views + total (λ v. v.ends) views ≤ 64
+    -- a seat ends at most once for each weight that it has, so the word is at most n + MOST_WORKERS
+    pub few_ends : total weight_going views + total (λ v. v.ends) views ≤ MOST_WORKERS
     -- a slot that was not drawn is at home and holds its piece
     pub home : (k : ℕ) (p : T) → word ≤ k → slice_get pieces k ≡ Some p → get_elem? homes k ≡ some (some (Some p))
 

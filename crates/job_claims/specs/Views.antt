@@ -1,11 +1,12 @@
 -- The views of seats, and how a step changes them.
 use Rattle.std.specs.Prelude.{ℕ, ◌+◌, ◌-◌, true, false, ◌||◌, List, [], ◌∷◌, ◌++◌}
+use Rattle.ent_types.specs.declared.limits.TheConstants.{MOST_WORKERS}
 use Rattle.job_claims.specs.declared.seat.View.{View}
 
 module _ {T : Type 0} where
   -- the first seat's view: all the weight, and nothing drawn
   abbrev pub opened : List T → View T
-  opened pieces = record { pieces = pieces; mine = []; ends = 0; ended = false; weight = 64 }
+  opened pieces = record { pieces = pieces; mine = []; ends = 0; ended = false; weight = MOST_WORKERS }
 
   -- the view of a seat that was given up
   abbrev pub spent : View T

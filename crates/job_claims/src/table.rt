@@ -3,6 +3,7 @@ ghost use Rattle.std.specs.Prelude.{◌≡◌, ◌^◌, ◌<◌, false, length, 
 ghost use Rattle.std.specs.Slots.{IsFull};
 ghost use mathlib.Core.Option.{none};
 ghost use Rattle.atomic_table.specs.Table.{step};
+ghost use Rattle.ent_types.specs.declared.limits.TheConstants.{MOST_WORKERS};
 ghost use Rattle.job_claims.specs.Views.{opened, after_split, split_off, joined};
 ghost use Rattle.job_claims.specs.Rule.{Draws, Gives, IsEachOnce};
 
@@ -14,7 +15,7 @@ use std::alloc::{AllocError, Global};
 use std::marker::Model;
 use std::snapshot::Snapshot;
 
-/// Pieces that up to 64 threads draw, each piece once.
+/// Pieces that up to `MOST_WORKERS` threads draw, each piece once.
 #[derive(Drop)]
 pub struct ClaimTable<T> {
     table: Table<Option<T>, View<T>, Snapshot<Vec<T>>, Claims, Global>,
@@ -49,7 +50,7 @@ impl<T> ClaimTable<T> {
         }
     }
 
-    /// Returns a seat for another thread. It has drawn nothing, and has one weight of `seat`. There can be 64 seats.
+    /// Returns a seat for another thread. It has drawn nothing, and has one weight of `seat`. There can be `MOST_WORKERS` seats.
     pub fn split(&self, seat: &mut ClaimSeat<T>) -> ClaimSeat<T>
         requires own { seat.old.table ≡ self.now }
         requires room { 1 < seat.old.view.weight }
@@ -113,7 +114,7 @@ impl<T> ClaimTable<T> {
     where
         T: Drop,
         requires own { seat.table ≡ self }
-        requires joined { seat.view.weight ≡ 64 }
+        requires joined { seat.view.weight ≡ MOST_WORKERS }
         requires ended { IsTrue seat.view.ended }
         ensures { IsEachOnce (length seat.view.pieces) seat.view.mine }
     {
