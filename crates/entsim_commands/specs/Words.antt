@@ -1,6 +1,7 @@
 -- The words after the program's name, and what each list of them asks for.
 use Rattle.std.specs.Prelude.{ℕ, ◌+◌, ◌*◌, ◌-◌, ◌==◌, nat_le, Bool, true, false, not, ◌&&◌, ◌||◌, if◌then◌else◌, List, [], ◌∷◌, fold, codes, bytes_eq, Option, Some, None, is_some, option_map, option_and_then}
 use Rattle.std.specs.Str.{all_ascii_digits}
+use Rattle.ent_types.specs.declared.limits.TheConstants.{MOST_WORKERS}
 use Rattle.entsim_commands.specs.declared.words.options.Options.{Options}
 use Rattle.entsim_commands.specs.declared.words.Command.{Command as Borrowed}
 use Rattle.entsim_commands.specs.declared.words.Command.TheVariants.{Run, Check, Layout, Plan, Dump, Make, Bench}
@@ -61,7 +62,7 @@ options_of (word ∷ []) = if bytes_eq word (codes "--trace") then with_trace no
 options_of (word ∷ value ∷ rest) =
     if bytes_eq word (codes "--trace") then option_and_then with_trace (options_of (value ∷ rest))
     else (if bytes_eq word (codes "--workers") then
-    option_and_then (λ n. option_and_then (with_workers n) (options_of rest)) (number_between 1 64 value)
+    option_and_then (λ n. option_and_then (with_workers n) (options_of rest)) (number_between 1 MOST_WORKERS value)
     else (if bytes_eq word (codes "--scene") then
     option_and_then (λ n. option_and_then (with_scene n) (options_of rest)) (number_between 1 2 value)
     else None))

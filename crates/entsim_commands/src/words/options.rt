@@ -3,11 +3,12 @@ ghost use Rattle.std.specs.Prelude.{List, ◌≡◌, ℕ, map, string_bytes};
 ghost use Rattle.entsim_commands.specs.Words.{no_options, with_workers, with_trace, with_scene, options_of};
 
 use super::number::read_number_between;
+use ent_types::limits::MOST_WORKERS;
 
 /// The options of a command line, with their values.
 #[derive(Clone, Copy)]
 pub struct Options {
-    /// How many threads may run the systems, 1 to 64: `--workers N`.
+    /// How many threads may run the systems, 1 to `MOST_WORKERS`: `--workers N`.
     pub workers: Option<u32>,
     /// `true` if the items are printed too: `--trace`.
     pub trace: bool,
@@ -74,7 +75,7 @@ pub fn read_options(words: &[String]) -> Option<Options>
         match word.as_str() {
             "--workers" => {
                 let (value, rest) = rest.split_first()?;
-                let workers = read_number_between(value.as_str(), 1, 64)?;
+                let workers = read_number_between(value.as_str(), 1, MOST_WORKERS)?;
                 options = options.with_workers(workers)?;
                 left = rest;
             }
