@@ -21,7 +21,7 @@ use Rattle.expr_trees.specs.declared.tree.UnaryOp.TheVariants as unary
 use Rattle.expr_trees.specs.declared.tree.BinaryOp.{BinaryOp}
 use Rattle.expr_trees.specs.declared.tree.BinaryOp.TheVariants as binary
 
--- what an expression sees of its own row, and of where the row is met
+-- what an expression sees of its own row, and of where the row is visited
 pub record OwnRow : Type 0 where
   pub field : TypeId → ℕ → Value
   -- the row has the type, and it isn't switched off there

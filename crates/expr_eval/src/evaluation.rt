@@ -69,7 +69,7 @@ pub fn eval_ref<R: RowReader>(e: &RefExpr, reader: &R) -> Entity
     }
 }
 
-/// The value of an expression on a row beside other rows (this project's own). Arithmetic wraps to 64 bits; `/` and
+/// Returns the value of an expression on a row among other rows (entsim's own). Arithmetic wraps to 64 bits; `/` and
 /// `%` go toward zero, and are 0 where the divisor is 0; a question gives 1 or 0, and anything but 0 is true.
 ///
 /// The own fields that it names must be there, and the types of its `get`s must be among those that can be read. It

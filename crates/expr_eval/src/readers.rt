@@ -8,7 +8,7 @@ ghost use Rattle.expr_eval.specs.Values.{OwnRow};
 
 use ent_types::{Entity, TypeId, Value};
 
-/// The row on which an expression is evaluated, and where that row is met (this project's own).
+/// The row on which an expression is evaluated, and where the row is visited (entsim's own).
 pub trait RowReader {
     /// What the row is.
     ghost own_row: { Self → OwnRow };
@@ -21,7 +21,7 @@ pub trait RowReader {
         requires { has_field self.now ty field ≡ true }
         ensures { result ≡ (own_row self.now).field ty field };
 
-    /// Says whether the row has the type and it isn't switched off there.
+    /// `true` if the row has the type and it is enabled there.
     fn on(&self, ty: TypeId) -> bool
         ensures { result ≡ (own_row self.now).on ty };
 
@@ -60,11 +60,11 @@ pub trait Lookup {
         requires { can_read self.now ty ≡ true }
         ensures { result ≡ (others_of (found self.now)).value e ty field };
 
-    /// Says whether the entity is alive and has the type, as its own or as a shared one.
+    /// `true` if the entity is alive and has the type, as its own or as a shared one.
     fn has(&self, e: Entity, ty: TypeId) -> bool
         ensures { result ≡ (others_of (found self.now)).has e ty };
 
-    /// Says whether the entity is alive, dying or not.
+    /// `true` if the entity is alive, dying or not.
     fn alive(&self, e: Entity) -> bool
         ensures { result ≡ (others_of (found self.now)).alive e };
 }

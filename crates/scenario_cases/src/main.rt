@@ -61,7 +61,7 @@ fn is_unread<R: Eprint>(rt: &R, file: &str, error: io::Error) -> io::Result<bool
     Ok(false)
 }
 
-/// `true` if a file was tried whole. A fault is told on standard error.
+/// `true` if a file was tried whole. A fault is printed on standard error.
 fn is_tried<R: Eprint>(rt: &R, file: &str, tried: Result<(), Fault>) -> io::Result<bool> {
     match tried {
         Ok(()) => Ok(true),

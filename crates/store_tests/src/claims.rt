@@ -35,7 +35,7 @@ fn drain(
     (seat, drawn)
 }
 
-/// Draws with so many threads, each with a seat of its own, until no piece is left, and joins the seats.
+/// Draws with `threads` threads, each with a seat of its own, until no piece is left, and joins the seats.
 fn drain_with<R: Threads + Sync>(
     rt: &R,
     alloc: Global,
@@ -144,7 +144,7 @@ fn two_seats_draw_three_pieces(rt: HostRuntime) {
     assert!(rt; two_seats_share(rt.alloc()));
 }
 
-/// Draws all pieces with so many threads.
+/// Draws all pieces with `threads` threads.
 fn drained<R: Threads + Sync>(
     rt: &R,
     alloc: Global,

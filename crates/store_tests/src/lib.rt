@@ -1,4 +1,4 @@
-//! Examples of the small crates that the store and the frame stand on.
+//! Examples of the small crates that the store and the frame depend on.
 //!
 //! The proofs cover what the contracts say. These examples compare the contracts with values from outside, and show
 //! that each call which can run out of memory succeeds with ample memory.

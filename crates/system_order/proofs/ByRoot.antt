@@ -184,7 +184,7 @@ module _ (children : List Child) (acyclic : first_cycle children ≡ None) where
 
 -- ---- parents
 
--- 1 where a root is so many parents over a child
+-- 1 if a root is n parents over a child
 abbrev depth_at : List Child → ℕ → ℕ → ℕ → ℕ
 depth_at children root zero x = same root x
 depth_at children root (suc n) x = cond (ltb x 3) 0 (depth_at children root n (child_at children x).parent)

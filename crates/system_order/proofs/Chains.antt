@@ -10,13 +10,13 @@ use Rattle.system_order.specs.Place.{blockers_of, places}
 use Rattle.system_order.proofs.Rows.{find_none}
 use Rattle.system_order.proofs.Waits.{places_none, places_some}
 
--- a number stands in a list
+-- a number is in a list
 pub record Has (xs : List ℕ) (x : ℕ) : Type 0 where
   pub at : ℕ
   pub within : at < length xs
   pub here : get_or xs at 0 ≡ x
 
--- what stands in a list still stands there without one place, or stands at that place
+-- a number of a list is still there without one place, or is at that place
 has_left : (xs : List ℕ) (i x : ℕ) → i < length xs → Has xs x → (x ≡ get_or xs i 0) ⊎ Has (remove xs i) x
 has_left xs i x inside h =
     elim (cases_eq h.at i) [
@@ -33,7 +33,7 @@ has_left xs i x inside h =
       ]
     ]
 
--- what stands in a list without one place stands in the list
+-- a number of a list without one place is in the list
 pub has_more : (xs : List ℕ) (i x : ℕ) → i < length xs → Has (remove xs i) x → Has xs x
 has_more xs i x inside h =
     elim (cases_lt h.at i) [

@@ -76,7 +76,7 @@ no_end before all rest known acyclic stuck (suc n) x h few =
     let less = fewer_before before all x earlier.0 (known earlier.0 earlier.1) earlier.2 acyclic in
     no_end before all rest known acyclic stuck n earlier.0 earlier.1 (omega (arith, less, few))
 
--- where none is free each is preceded by one of the rest
+-- if no child is free, each is preceded by one of the rest
 preceded : (before : ℕ → ℕ → Bool) (rest : List ℕ) → position (λ sibling. eqb (blockers_of before rest sibling) 0) rest ≡ None → (x : ℕ) → Has rest x → (y : ℕ) × Has rest y × (before y x ≡ true)
 preceded before rest none x h =
     let blocked : eqb (blockers_of before rest x) 0 ≡ false =

@@ -7,7 +7,7 @@ use Rattle.std.proofs.lemmas.List.{drop_more, take_more, take-append-drop}
 use Rattle.std.proofs.lemmas.List.Folds.{find-append}
 use Rattle.system_order.specs.Order.{first_some}
 
--- the first that passes stands at i
+-- the first that passes is at i
 pub find_here : {X : Type 0} (p : X → Bool) (xs : List X) (i : ℕ) (d : X) → i < length xs → find p (take i xs) ≡ None → p (get_or xs i d) ≡ true → find p xs ≡ Some (get_or xs i d)
 find_here p xs i d within none passes =
     ap (find p) (sym (take-append-drop i xs))

@@ -63,7 +63,7 @@ pub first_free_is : (before : ℕ → ℕ → Bool) (siblings : List ℕ) → po
 first_free_is before siblings =
     position-map (λ (waiting : Waiting). eqb waiting.blockers 0) (λ sibling. record { child = sibling; blockers = blockers_of before siblings sibling }) siblings
 
--- where none is free there are no more places
+-- if no child is free there are no more places
 pub places_none : (before : ℕ → ℕ → Bool) (room : ℕ) (siblings : List ℕ) → position (λ sibling. eqb (blockers_of before siblings sibling) 0) siblings ≡ None → places before room siblings ≡ []
 unfolding places
 places_none before zero siblings none = refl
@@ -105,7 +105,7 @@ is_placed before rest after at child counted some is_child is_after =
           ∙ ap (λ (ys : List ℕ). child ∷ places before (length ys) ys) (sym left);
     }
 
--- where none is free there are no more places
+-- if no child is free there are no more places
 pub none_free : (before : ℕ → ℕ → Bool) (rest : List Waiting) → rest ≡ waiting_list before (siblings_of rest) → None ≡ position (λ (waiting : Waiting). eqb waiting.blockers 0) rest → places before (length (siblings_of rest)) (siblings_of rest) ≡ []
 none_free before rest counted none =
     places_none before (length (siblings_of rest)) (siblings_of rest)

@@ -19,7 +19,7 @@ pub record IsForest (children : List Child) : Type 0 where
   pub earlier : (number : ℕ) → 3 ≤ number → number < length children → (child_at children number).parent < number
   pub groups : (number : ℕ) → 3 ≤ number → number < length children → (child_at children (child_at children number).parent).is_group ≡ true
 
--- the root over a child, at most so many parents up
+-- the root over a child, at most n parents up
 abbrev pub root_within : List Child → ℕ → ℕ → ℕ
 root_within children zero number = number
 root_within children (suc parents) number = if nat_lt number 3 then number else root_within children parents (child_at children number).parent

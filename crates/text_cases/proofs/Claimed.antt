@@ -1,4 +1,4 @@
--- What is told of a reader's answer claims what the reader ensures.
+-- What a test claims of a reader's answer follows from what the reader ensures.
 use Rattle.std.proofs.Common.{ℕ, ◌≡◌, List, sym, subst}
 use Rattle.std.specs.Prelude.{Result, Ok, Err, MatchResult}
 use Rattle.expr_grammar.specs.declared.fault.ExprFault.{ExprFault}

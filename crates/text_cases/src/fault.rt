@@ -10,7 +10,7 @@ pub enum LineFault {
     UnknownLine,
     /// The line lacks a part, or has one too many.
     Parts,
-    /// A word that may not stand there.
+    /// A word that isn't allowed there.
     UnknownWord,
     /// A name that isn't one, or that no type has.
     Name,

@@ -1,4 +1,4 @@
-//! Where the texts of some cases stand.
+//! The places of the texts of some cases.
 ghost use Rattle.std.specs.Prelude.{◌≡◌, [], IfOk};
 ghost use Rattle.ent_types.specs.Registries.{built_in_types};
 
@@ -64,7 +64,7 @@ impl Setting {
     }
 
     /// Takes a line of the table that isn't a case: a line that begins a scope, or one that adds to it. Empty lines and
-    /// remarks tell nothing.
+    /// comments are skipped.
     pub fn take(&mut self, alloc: Global, line: &str) -> Result<(), LineFault> {
         let (word, rest) = line.split_once(' ').unwrap_or((line, ""));
         match word {
@@ -135,7 +135,7 @@ pub fn place_named(name: &str) -> Result<TextPlace, LineFault> {
     }
 }
 
-/// Says whether a made name goes into the buffer of the text.
+/// `true` if a made name goes into the buffer of the text.
 fn is_same(buffer: &str) -> Result<bool, LineFault> {
     match buffer {
         "same" => Ok(true),

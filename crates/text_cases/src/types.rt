@@ -9,8 +9,8 @@ use std::alloc::Global;
 /// The word of a type that can be switched off in a row.
 const ENABLEABLE: &str = "enableable";
 
-/// The type that the rest of its line tells: the kind, the name, each field as `NAME:KIND`, and `enableable` where it
-/// is, with spaces between.
+/// Returns the type that the rest of its line declares: the kind, the name, each field as `NAME:KIND`, and `enableable` if
+/// it is, with spaces between.
 pub fn read_type(alloc: Global, rest: &str) -> Result<TypeInfo, LineFault> {
     let (kind, rest) = rest.split_once(' ').ok_or(LineFault::Parts)?;
     let (name, rest) = rest.split_once(' ').unwrap_or((rest, ""));
@@ -30,7 +30,7 @@ pub fn read_type(alloc: Global, rest: &str) -> Result<TypeInfo, LineFault> {
     Ok(info)
 }
 
-/// The field that a word tells.
+/// Returns the field that a word declares.
 fn read_field(word: &str) -> Result<FieldInfo, LineFault> {
     let (name, kind) = word.split_once(':').ok_or(LineFault::Parts)?;
     Ok(FieldInfo {
