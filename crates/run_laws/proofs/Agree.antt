@@ -33,14 +33,14 @@ use Rattle.expr_trees.specs.declared.tree.PartExpr.{PartExpr}
 use Rattle.expr_trees.specs.declared.tree.CommandText.{CommandText}
 use Rattle.expr_trees.specs.declared.tree.CommandText.TheVariants as texts
 use Rattle.scenario_record.specs.declared.record.CommandEntry.{CommandEntry}
-use Rattle.scenario_record.specs.Uses.{Use, own_number, own_ref, looked_up, has_type as tested_type, on_type, in_ref, expr_step, in_expr, in_value, in_part, in_act, in_command}
+use Rattle.scenario_record.specs.Uses.{Use, own_number, own_ref, looked_up, has_type as tested_type, on_type, read_types, in_ref, expr_step, in_expr, in_value, in_part, in_act, in_command}
 use Rattle.world_model.specs.Members.{In}
 use Rattle.run_model.specs.Query.{is_off}
 use Rattle.run_model.specs.Job.{Spot, own_of, fitted, Text, Assigns, Switches, after_text, after_texts}
-use Rattle.run_model.specs.Touched.{read_types}
 use Rattle.run_model.specs.Commands.{Live, GivenValue, Known, Creates, ActsOn, Recorded, target_of, given_ref, given_of, givens_from, part_given, change_of, placeholders_in, is_recorded, recorded_as, recorded_from}
 use Rattle.run_laws.specs.Agree.{CellAgree, CellsAgree, OthersAgree}
-use Rattle.run_laws.proofs.Lists.{both_map, in_left, in_right, Within, within_left, within_right}
+use Rattle.world_laws.proofs.Members.{in_left, in_right}
+use Rattle.run_laws.proofs.Lists.{both_map, Within, within_left, within_right}
 
 -- what a text names
 abbrev pub text_uses : Text → List Use

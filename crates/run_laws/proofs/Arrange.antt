@@ -93,7 +93,7 @@ before_once x y e = false_when (before y x) (λ f. by (before_is x x (before_lat
     by (inl e) = key_self x.command.key e
     by (inr e) = spot_self x.item x.place x.command.number e.1
 
--- entries that neither stands before the other agree in item, place and number
+-- two entries of which neither is before the other agree in item, place and number
 before_same : (x y : Entry) → before x y ≡ false → before y x ≡ false → (x.item ≡ y.item) × (x.place ≡ y.place) × (x.command.number ≡ y.command.number)
 before_same x y e f = by (int_lt x.command.key y.command.key) (int_lt y.command.key x.command.key) refl refl e f
   where

@@ -18,7 +18,9 @@ use Rattle.world_model.specs.Lawful.{AreLawfulCells}
 use Rattle.scenario_record.specs.declared.record.SystemEntry.{SystemEntry}
 use Rattle.run_model.specs.Query.{is_off, is_on, is_disabled, matches, passes}
 use Rattle.run_model.specs.LawfulQuery.{IsLawfulQuery, with_bits, SomeBitsMatch}
-use Rattle.run_laws.proofs.Lists.{in_left, in_right, has_in, in_has, all_eq, any_eq}
+use Rattle.world_laws.proofs.Members.{in_left, in_right}
+use Rattle.world_laws.proofs.Types.{has_in}
+use Rattle.run_laws.proofs.Lists.{in_has, all_eq, any_eq}
 use Rattle.run_laws.proofs.Matches.{matches_pass}
 
 -- ---- what can be disabled isn't shared

@@ -55,7 +55,7 @@ module _ (registry : List TypeInfo) (own : OwnRow) (others : OtherRows) (made : 
   at_seam other [] f after = refl
   at_seam other (g ∷ before) f after = at_seam other before f after
 
-  -- the values of the fields that are still to come, of which so many came before
+  -- the values of the fields that follow `before`
   givens_fit : (t : ℕ) (before rest : List FieldInfo) (vs : List ValueExpr) → before ++ rest ≡ fields_at registry t → AreOfKinds rest vs
       → fits_fields rest (map (value_given made) (givens_from registry own others t (length before) vs)) ≡ true
   givens_fit t before [] [] e h = refl

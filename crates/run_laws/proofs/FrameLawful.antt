@@ -8,12 +8,13 @@ use Rattle.world_model.specs.World.{World}
 use Rattle.world_model.specs.Lawful.{IsLawful, HasRoomForParts}
 use Rattle.world_laws.proofs.Members.{in_append, in_map, in_filter}
 use Rattle.scenario_record.specs.declared.record.SystemEntry.{SystemEntry}
+use Rattle.scenario_record.specs.Lawful.{same_point}
 use Rattle.run_model.specs.Clock.{moments}
 use Rattle.run_model.specs.Run.{Entry, run}
 use Rattle.run_model.specs.Buffers.{SharedKey, shared_key}
 use Rattle.run_model.specs.Loads.{SceneState, due_from, due_arrived, requested, unloaded}
 use Rattle.run_model.specs.Tasks.{FrameEvent, Operates, Loads, Unloads, FrameStep, DoesEvents, Plays, Runs, Task}
-use Rattle.run_model.specs.Frames.{Buffer, State, Course, Goes, Stops, waits_at, is_point, buffer_at, all_points, buffers_of, has_entry, last_run, raised, event_done, after_buffer, unless_shared, after_buffers, after_point, after_system, step_done, course_after, course_after_all, scenes_changed}
+use Rattle.run_model.specs.Frames.{Buffer, State, Course, Goes, Stops, waits_at, buffer_at, all_points, buffers_of, has_entry, last_run, raised, event_done, after_buffer, unless_shared, after_buffers, after_point, after_system, step_done, course_after, course_after_all, scenes_changed}
 use Rattle.run_laws.specs.Suits.{OperationSuits, AllSuit, SystemSuits}
 use Rattle.run_laws.specs.Lawful.{IsLawfulState, EventSuits, StepSuits, event_requests, events_requests, step_requests, task_requests, HasFewLoads, OnGoes, IsLawfulWith}
 use Rattle.run_laws.proofs.RunLawful.{later_block, run_lawful, run_registry}
@@ -144,7 +145,7 @@ module _ (capacity : List ℕ → ℕ) (fits : HasRoomForParts capacity) (first 
   buffers_suit : (n : ℕ) (s : SystemEntry) (frame : ℕ) (entries : List Entry) → AllSuit registry entries → (b : Buffer) → In b (buffers_of n s frame entries) → AllSuit registry b.entries
   buffers_suit n s frame entries suits b i =
       let (p, j, e) = in_map (buffer_at n s frame entries) b all_points (in_filter has_entry b (map (buffer_at n s frame entries) all_points) i) in
-      subst (λ (c : Buffer). AllSuit registry c.entries) (sym e) (λ x k. suits x (in_filter (λ (x : Entry). is_point x.command.point p) x entries k))
+      subst (λ (c : Buffer). AllSuit registry c.entries) (sym e) (λ x k. suits x (in_filter (λ (x : Entry). same_point x.command.point p) x entries k))
 
   system_lawful : (frame count n : ℕ) (s : SystemEntry) (st : State) → SystemSuits registry s → Lawful count st → Lawful count (after_system (moments first) capacity trace frame n s st)
   system_lawful frame count n s st suits h =

@@ -1,8 +1,9 @@
 -- Lists element by element, and members of lists.
-use Rattle.std.proofs.Common.{◌≡◌, ℕ, ◌⊎◌, inl, inr, nat_eq, Bool, true, false, ◌&&◌, ◌||◌, if◌then◌else◌, List, [], ◌∷◌, ◌++◌, map, filter, refl, sym, ap, ap₂, ◌∙◌, subst, eqb-true, eq-eqb}
+use Rattle.std.proofs.Common.{◌≡◌, ℕ, inl, inr, nat_eq, Bool, true, false, ◌&&◌, ◌||◌, if◌then◌else◌, List, [], ◌∷◌, ◌++◌, map, filter, refl, sym, ap, ap₂, ◌∙◌, subst, eq-eqb}
 use Rattle.std.specs.List.{list_all, list_any}
 use Rattle.ent_types.specs.TypeSets.{has_type}
 use Rattle.world_model.specs.Members.{In}
+use Rattle.world_laws.proofs.Members.{in_left, in_right}
 use Rattle.run_laws.specs.Agree.{Both}
 
 pub both_self : {A : Type 0} (R : A → A → Type 0) → ((x : A) → R x x) → (xs : List A) → Both R xs xs
@@ -36,32 +37,6 @@ both_less R S less (x ∷ xs) [] h = absurd h
 both_less R S less (x ∷ xs) (y ∷ ys) h = (less x y h.0, both_less R S less xs ys h.1)
 
 -- ---- members
-
-pub in_left : {A : Type 0} (t : A) (xs ys : List A) → In t xs → In t (xs ++ ys)
-in_left t [] ys h = absurd h
-in_left t (x ∷ xs) ys (inl e) = inl e
-in_left t (x ∷ xs) ys (inr i) = inr (in_left t xs ys i)
-
-pub in_right : {A : Type 0} (t : A) (xs ys : List A) → In t ys → In t (xs ++ ys)
-in_right t [] ys h = h
-in_right t (x ∷ xs) ys h = inr (in_right t xs ys h)
-
-pub in_some : {A : Type 0} (t : A) (xs ys : List A) → In t (xs ++ ys) → In t xs ⊎ In t ys
-in_some t [] ys h = inr h
-in_some t (x ∷ xs) ys (inl e) = inl (inl e)
-in_some t (x ∷ xs) ys (inr i) = by (in_some t xs ys i)
-  where
-    by : In t xs ⊎ In t ys → ((t ≡ x) ⊎ In t xs) ⊎ In t ys
-    by (inl j) = inl (inr j)
-    by (inr j) = inr j
-
-pub has_in : (t : ℕ) (us : List ℕ) → has_type us t ≡ true → In t us
-has_in t [] h = absurd (cc)
-has_in t (u ∷ us) h = by (nat_eq u t) refl h (has_in t us)
-  where
-    by : (b : Bool) → nat_eq u t ≡ b → (b || has_type us t) ≡ true → (has_type us t ≡ true → In t us) → (t ≡ u) ⊎ In t us
-    by true e h rest = inl (sym (eqb-true u t e))
-    by false e h rest = inr (rest h)
 
 pub in_has : (t : ℕ) (us : List ℕ) → In t us → has_type us t ≡ true
 in_has t [] h = absurd h

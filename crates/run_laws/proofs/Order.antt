@@ -1,4 +1,4 @@
--- The entries of a run stand in the order in which they were recorded: by item, then place, then number. So no two of a
+-- The entries of a run are in the order in which they were recorded: by item, then place, then number. So no two of a
 -- buffer agree in all three.
 use Rattle.std.proofs.Common.{◌≡◌, ℕ, ◌+◌, ◌<◌, ◌≤◌, ◌⊎◌, inl, inr, Bool, true, false, if◌then◌else◌, List, [], ◌∷◌, ◌++◌, filter, Option, refl, sym, subst, arith, ⊎_elim}
 use Rattle.std.specs.List.{flat_map}

@@ -20,7 +20,9 @@ use Rattle.run_model.specs.Run.{MatchedRow, Entry, entries_at, cells_after, rows
 use Rattle.run_model.specs.Touched.{named_types}
 use Rattle.run_model.specs.Phases.{reads, touches, conflicts, Turn, IsFree, AreFree, AreApart, RunOutput, output_of, turn_result, world_each, outputs_each, moment_after, Item, rows_after_first, turn_items, put_cells, put_rows, with_item, with_items, joined_from, joined, item_entries, items_output, joined_outputs}
 use Rattle.run_laws.specs.Agree.{Both, CellAgree, MarkAgree, CellsAgree, RowAgree, BlockAgree, OthersAgree}
-use Rattle.run_laws.proofs.Lists.{both_self, both_then, both_less, in_left, has_in, in_has, Within}
+use Rattle.world_laws.proofs.Members.{in_left}
+use Rattle.world_laws.proofs.Types.{has_in}
+use Rattle.run_laws.proofs.Lists.{both_self, both_then, both_less, in_has, Within}
 use Rattle.run_laws.proofs.RunAgree.{Touched, others_agree, rows_agree, entries_agree, visited_agree, visits_agree, passing_agree}
 
 -- ---- agreement goes on, and holds of less

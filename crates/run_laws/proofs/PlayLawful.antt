@@ -7,32 +7,15 @@ use Rattle.ent_types.specs.Fitting.{null_entity}
 use Rattle.world_model.specs.World.{World}
 use Rattle.world_model.specs.Part.{by_type}
 use Rattle.world_model.specs.Found.{Found, found}
-use Rattle.world_model.specs.Operations.{Act, Operation, Create, On, Outcome, Skips, Keeps, Writes, Moves, Ends, Makes, sight, decide, decide_create, apply, acted, operate}
+use Rattle.world_model.specs.Operations.{Act, Operation, Create, On, sight, decide, decide_create, acted, operate}
 use Rattle.world_model.specs.Lawful.{IsLawful, HasRoomForParts}
 use Rattle.world_laws.proofs.Kept.{operate_lawful}
 use Rattle.run_model.specs.Run.{Entry}
 use Rattle.run_model.specs.Buffers.{before, arranged}
 use Rattle.run_model.specs.Playback.{PlaybackState, made_for, operation_of, done_by, after_entry, after_entries, playback}
+use Rattle.world_laws.proofs.Built.{operate_registry}
 use Rattle.run_laws.specs.Suits.{OperationSuits, AllSuit}
 use Rattle.run_laws.proofs.Sorts.{in_sorted}
-
--- an operation leaves the registry
-apply_registry : (capacity : List ℕ → ℕ) (w : World) (e : Entity) (out : Outcome) → (apply capacity w e out).world.registry ≡ w.registry
-apply_registry capacity w e (Skips cause) = refl
-apply_registry capacity w e Keeps = refl
-apply_registry capacity w e (Writes types cells dying) = refl
-apply_registry capacity w e (Moves home cells dying) = refl
-apply_registry capacity w e Ends = refl
-apply_registry capacity w e (Makes home cells) = refl
-
-acted_registry : (capacity : List ℕ → ℕ) (w : World) (e : Entity) (a : Act Value) (x : Option Found) → (acted capacity w e a x).world.registry ≡ w.registry
-acted_registry capacity w e a None = refl
-acted_registry capacity w e a (Some x) = apply_registry capacity w e (decide (sight capacity w) x a)
-
-pub operate_registry : (capacity : List ℕ → ℕ) (w : World) (operation : Operation) → (operate capacity w operation).world.registry ≡ w.registry
-unfolding operate
-operate_registry capacity w (Create parts) = apply_registry capacity w null_entity (decide_create (sight capacity w) (by_type parts))
-operate_registry capacity w (On e a) = acted_registry capacity w e a (found e w.blocks)
 
 module _ (capacity : List ℕ → ℕ) (room : HasRoomForParts capacity) where
   pub done_registry : (w : World) (o : Option Operation) → (done_by capacity w o).world.registry ≡ w.registry

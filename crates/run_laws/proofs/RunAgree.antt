@@ -28,7 +28,9 @@ use Rattle.run_model.specs.Run.{MatchedRow, entries_at, cells_after, recorded_at
 use Rattle.run_model.specs.Touched.{read_by, named_types}
 use Rattle.run_model.specs.Phases.{reads, touches}
 use Rattle.run_laws.specs.Agree.{Both, MarkAgree, CellsAgree, RowAgree, BlockAgree, FoundAgree, OthersAgree}
-use Rattle.run_laws.proofs.Lists.{both_map, both_append, in_left, in_right, has_in, in_passing, all_eq, any_eq, Within, within_left, within_right}
+use Rattle.world_laws.proofs.Members.{in_left, in_right}
+use Rattle.world_laws.proofs.Types.{has_in}
+use Rattle.run_laws.proofs.Lists.{both_map, both_append, in_passing, all_eq, any_eq, Within, within_left, within_right}
 use Rattle.run_laws.proofs.Agree.{cell_same, off_same, Sees, sees_left, sees_right, seen, AllSeen, texts_agree, said_agree}
 
 -- ---- lookups

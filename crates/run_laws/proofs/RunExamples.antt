@@ -98,7 +98,7 @@ what_doesnt_run_is_in_no_phase : frame_parts three 2 some_steps ≡ EventsPart �
 unfolding frame_parts
 what_doesnt_run_is_in_no_phase = refl
 
--- nor does it part those beside it, though it conflicts with both
+-- nor does it separate its neighbours, though it conflicts with both
 abbrev two_and_a_writer : Scenario
 two_and_a_writer = scenario [] (points_home ∷ record points_home { every = 2 } ∷ asks (5 ∷ []) [] [] [] [] ∷ [])
 

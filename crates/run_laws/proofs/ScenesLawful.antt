@@ -22,7 +22,7 @@ use Rattle.world_laws.proofs.Built.{built_lawful, built_registry}
 use Rattle.run_model.specs.declared.lines.NoteLine.TheVariants.{SceneArrived, SceneFull}
 use Rattle.run_model.specs.Loads.{SceneFile, Absent, TooLong, Faulty, Spelled, LoadState, Requested, Arrived, Refused, Unloaded, Load, SceneState, Arrival, arrival_of, arrived, load_arrived, with_load, requested, tagged, destroyed, load_unloaded, load_named, unloaded_there, unloaded_at, unloaded}
 use Rattle.run_laws.specs.Lawful.{IsLawfulFile}
-use Rattle.run_laws.proofs.PlayLawful.{operate_registry}
+use Rattle.world_laws.proofs.Built.{operate_registry}
 
 -- ---- lists of loads
 
@@ -62,7 +62,7 @@ number_fits n few = grind (arith, ints)
 
 -- ---- scenes
 
--- a lawful world with these types, and so many loads of lawful files
+-- a lawful world with these types, and n loads of lawful files
 pub record IsLawfulScenes (capacity : List ℕ → ℕ) (registry : List TypeInfo) (count : ℕ) (st : SceneState) : Type 0 where
   pub world : IsLawful capacity st.world
   pub registry_is : st.world.registry ≡ registry

@@ -56,7 +56,7 @@ abbrev pub task_requests : List Task → ℕ
 task_requests [] = 0
 task_requests (t ∷ ts) = step_requests t.step + task_requests ts
 
--- With so many further loads there are no more than a scenario has events, so that each load's number fits the scene tag.
+-- With n further loads there are at most as many as a scenario has events, so each load's number fits the scene tag.
 abbrev pub HasFewLoads : ℕ → State → Type 0
 HasFewLoads more st = length st.loads + more ≤ MOST_EVENTS
 
@@ -67,7 +67,7 @@ abbrev pub OnGoes : (State → Type 0) → Course → Type 0
 OnGoes P (Goes st) = P st
 OnGoes P (Stops lines) = Unit {0}
 
--- lawful, with so many loads in all
+-- lawful, with n loads in all
 pub record IsLawfulWith (capacity : List ℕ → ℕ) (registry : List TypeInfo) (count : ℕ) (st : State) : Type 0 where
   pub lawful : IsLawfulState capacity registry st
   pub count_is : length st.loads ≡ count

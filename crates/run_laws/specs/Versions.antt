@@ -1,4 +1,4 @@
--- A run over versions of 32 bits in the place of moments.
+-- A run over versions of 32 bits instead of moments.
 use Rattle.std.specs.Prelude.{ℕ, ◌≤◌, map, Option, Some, None, option_map}
 use Rattle.system_version.specs.Versions.{IsMoment}
 use Rattle.world_model.specs.Members.{In}

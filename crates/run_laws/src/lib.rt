@@ -172,7 +172,7 @@ pub fn phases_are_the_fold_of_the_steps()
         → outcome trace files s ≡ end_by_phases (moments s.first_system_version) (capacity s.registry) trace files s (steps_of s) first_moment }
 {}
 
-/// A run has at most MOST_MOMENTS moments, for which the versions of 32 bits can stand.
+/// A run has at most MOST_MOMENTS moments, so versions of 32 bits can stand for them.
 pub fn runs_have_few_moments()
     ensures { (trace : Bool) (files : List ℕ → SceneFile) (s : Scenario) → IsOrdered s → s.frames ≤ MOST_FRAMES → length s.system ≤ MOST_SYSTEMS
         → (n : ℕ) → OnGoes (λ st. IsMoment st.world.moment) (course_of_first trace files s n) }

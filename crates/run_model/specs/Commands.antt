@@ -34,7 +34,7 @@ pub data GivenValue : Type 0 where
   Known : Value → GivenValue
   MadeBy : ℕ → GivenValue
 
--- a structural change whose values are known but for the entities that are made
+-- a structural change whose values are known, except for the entities that are made
 pub data Change : Type 0 where
   Creates : List (PartOf GivenValue) → Change
   ActsOn : Target → Act GivenValue → Change

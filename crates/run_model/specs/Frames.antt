@@ -7,6 +7,7 @@ use Rattle.world_model.specs.Operations.{Reply, Made, Done, Skipped, Answer}
 use Rattle.scenario_record.specs.declared.plan.Step.{Step}
 use Rattle.scenario_record.specs.declared.record.Scenario.{Scenario}
 use Rattle.scenario_record.specs.declared.record.SystemEntry.{SystemEntry}
+use Rattle.scenario_record.specs.Lawful.{same_point}
 use Rattle.run_model.specs.declared.lines.NoteLine.{NoteLine}
 use Rattle.run_model.specs.declared.lines.NoteLine.TheVariants.{EventSkip, CommandSkip, Unplayed, KeyShared}
 use Rattle.run_model.specs.declared.lines.TraceLine.{TraceLine}
@@ -28,16 +29,6 @@ pub record Buffer : Type 0 where
   pub point : Point
   pub entries : List Entry
 
-abbrev pub point_number : Point → ℕ
-point_number BeginInitialization = 0
-point_number EndInitialization = 1
-point_number BeginSimulation = 2
-point_number EndSimulation = 3
-point_number BeginPresentation = 4
-
-abbrev pub is_point : Point → Point → Bool
-is_point p q = nat_eq (point_number p) (point_number q)
-
 -- the points in the order of a frame
 abbrev pub all_points : List Point
 all_points = BeginInitialization ∷ EndInitialization ∷ BeginSimulation ∷ EndSimulation ∷ BeginPresentation ∷ []
@@ -48,7 +39,7 @@ buffer_at n s frame entries point = record {
   name = s.name;
   frame = frame;
   point = point;
-  entries = filter (λ x. is_point x.command.point point) entries;
+  entries = filter (λ x. same_point x.command.point point) entries;
 }
 
 abbrev pub has_entry : Buffer → Bool
@@ -59,7 +50,7 @@ abbrev pub buffers_of : ℕ → SystemEntry → ℕ → List Entry → List Buff
 buffers_of n s frame entries = filter has_entry (map (buffer_at n s frame entries) all_points)
 
 abbrev pub waits_at : Point → Buffer → Bool
-waits_at point b = is_point b.point point
+waits_at point b = same_point b.point point
 
 abbrev pub entry_count : List Buffer → ℕ
 entry_count buffers = sum_by (λ b. length b.entries) buffers

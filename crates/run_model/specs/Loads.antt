@@ -1,4 +1,4 @@
--- Scenes in a run: what is requested, what becomes of it when it is due, and how it is unloaded.
+-- Scenes in a run: the request of a load, its arrival when it is due, and its unload.
 use Rattle.std.specs.Prelude.{ℕ, ◌+◌, Bool, true, false, ◌&&◌, if◌then◌else◌, nat_eq, nat_le, List, [], ◌∷◌, ◌++◌, length, map, filter, fold, position, slice_get, slice_set, Option, Some, None}
 use Rattle.std.specs.List.{list_any}
 use Rattle.ent_types.specs.declared.entity.Entity.{Entity}
@@ -50,7 +50,7 @@ is_requested Unloaded = false
 
 -- ---- arriving
 
--- what becomes of a load that is due: the world, its state, and its line
+-- the outcome of a load that is due: the world, the load's state, and its line
 pub record Arrival : Type 0 where
   pub world : World
   pub state : LoadState

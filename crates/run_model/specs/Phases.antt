@@ -120,7 +120,7 @@ pub record ItemResult : Type 0 where
   pub entries : List Entry
 
 module _ (clock : Clock) (registry : List TypeInfo) (frame : ℕ) (others : OtherRows) where
-  -- the rows of an item from this place on, after the job on the first so many that match
+  -- the rows of an item from this place on, after the job on the first n that match
   abbrev pub rows_after_first : SystemEntry → ℕ → Home → ℕ → ℕ → List Row → List Row
   rows_after_first s item home place zero rows = rows
   rows_after_first s item home place (suc k) [] = []
@@ -130,7 +130,7 @@ module _ (clock : Clock) (registry : List TypeInfo) (frame : ℕ) (others : Othe
       ∷ rows_after_first s item home (place + 1) k rs
       else r ∷ rows_after_first s item home (place + 1) (suc k) rs
 
-  -- an item after its first so many rows that match; all else is read as it was before the phase
+  -- an item after its first n rows that match; all else is read as it was before the phase
   abbrev pub item_result : Item → ℕ → ItemResult
   item_result i k = record {
     rows = rows_after_first i.turn.system i.number i.block.home 0 k i.block.rows;

@@ -41,23 +41,20 @@ band_of first last = if first then First else if last then Last else Middle
 abbrev pub root : Child
 root = record { parent = 0; is_group = true; band = Middle; before = []; after = [] }
 
-abbrev pub group_child : Scenario → GroupEntry → Child
-group_child s g = record {
-  parent = group_number s.group g.parent;
-  is_group = true;
-  band = band_of g.first g.last;
-  before = children_named s g.before;
-  after = children_named s g.after;
+abbrev pub child_in : Scenario → Bool → List ℕ → Bool → Bool → List (List ℕ) → List (List ℕ) → Child
+child_in s is_group parent first last before after = record {
+  parent = group_number s.group parent;
+  is_group = is_group;
+  band = band_of first last;
+  before = children_named s before;
+  after = children_named s after;
 }
 
+abbrev pub group_child : Scenario → GroupEntry → Child
+group_child s g = child_in s true g.parent g.first g.last g.before g.after
+
 abbrev pub system_child : Scenario → SystemEntry → Child
-system_child s y = record {
-  parent = group_number s.group y.group;
-  is_group = false;
-  band = band_of y.first y.last;
-  before = children_named s y.before;
-  after = children_named s y.after;
-}
+system_child s y = child_in s false y.group y.first y.last y.before y.after
 
 unfoldable pub children_of : Scenario → List Child
 children_of s = root ∷ root ∷ root ∷ (map (group_child s) s.group ++ map (system_child s) s.system)

@@ -1,4 +1,4 @@
-//! The lines that a run writes, but for those of the world at its end.
+//! The lines that a run writes, except those of the world at its end.
 use crate::SceneFault;
 use ent_types::{Name, Point, Skip};
 

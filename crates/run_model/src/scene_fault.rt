@@ -17,7 +17,7 @@ pub enum SceneCause {
     TypeOrder,
     /// A type isn't one of the scenario's.
     UnknownType,
-    /// A type may not stand in a scene.
+    /// A type isn't allowed in a scene.
     Reserved,
     /// A type has another kind or other fields than in the scenario.
     TypeShape,

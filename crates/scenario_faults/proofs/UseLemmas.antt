@@ -4,8 +4,8 @@ use Rattle.std.specs.List.{flat_map}
 use Rattle.std.proofs.lemmas.List.Elements.{filter-append}
 use Rattle.std.proofs.lemmas.List.Sums.{fold-append}
 use Rattle.scenario_faults.specs.declared.uses.Touched.{Touched}
-use Rattle.scenario_record.specs.Uses.{Use, own_number, own_ref, looked_up, has_type, on_type, made}
-use Rattle.scenario_faults.specs.Found.{read_types, looked_up_types, tested_types, put_type, with_types, nothing, with_use, with_uses}
+use Rattle.scenario_record.specs.Uses.{Use, own_number, own_ref, looked_up, has_type, on_type, made, read_types}
+use Rattle.scenario_faults.specs.Found.{looked_up_types, tested_types, put_type, with_types, nothing, with_use, with_uses}
 
 pub types-append : (set xs ys : List ℕ) → with_types set (xs ++ ys) ≡ with_types (with_types set xs) ys
 types-append set xs ys = fold-append put_type set xs ys

@@ -2,7 +2,7 @@
 use Rattle.std.specs.Prelude.{ℕ, List, [], ◌∷◌, fold, nat_lt, if◌then◌else◌}
 use Rattle.ent_types.specs.declared.limits.TheConstants.{MOST_TYPES}
 use Rattle.ent_types.specs.TypeSets.{with_type}
-use Rattle.scenario_record.specs.Uses.{Use, own_number, own_ref, looked_up, has_type, on_type, made}
+use Rattle.scenario_record.specs.Uses.{Use, own_number, own_ref, looked_up, has_type, on_type, made, read_types}
 use Rattle.scenario_faults.specs.declared.uses.Touched.{Touched}
 
 -- ---- sets of types
@@ -20,15 +20,7 @@ set_of types = with_types [] types
 
 -- ---- the types that a walk finds
 
--- the type whose values a text reads in the own row or looks up
-abbrev pub read_types : Use → List ℕ
-read_types (own_number ty i) = ty ∷ []
-read_types (own_ref ty i) = ty ∷ []
-read_types (looked_up ty i) = ty ∷ []
-read_types (has_type ty) = []
-read_types (on_type ty) = ty ∷ []
-read_types (made k) = []
-
+-- the type that a text looks up by `get`
 abbrev pub looked_up_types : Use → List ℕ
 looked_up_types (own_number ty i) = []
 looked_up_types (own_ref ty i) = []

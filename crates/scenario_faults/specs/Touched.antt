@@ -4,8 +4,8 @@ use Rattle.ent_types.specs.declared.type_info.TypeInfo.{TypeInfo}
 use Rattle.ent_types.specs.Registries.{type_at}
 use Rattle.scenario_record.specs.declared.plan.Access.{Access}
 use Rattle.scenario_record.specs.declared.record.SystemEntry.{SystemEntry}
-use Rattle.scenario_record.specs.Uses.{uses_of}
-use Rattle.scenario_faults.specs.Found.{read_types, looked_up_types, set_of}
+use Rattle.scenario_record.specs.Uses.{read_types, uses_of}
+use Rattle.scenario_faults.specs.Found.{looked_up_types, set_of}
 
 -- the types that its texts read: those of own fields, of `on` and of `get`
 abbrev pub read_by : SystemEntry → List ℕ

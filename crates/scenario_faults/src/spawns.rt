@@ -7,6 +7,7 @@ ghost use Rattle.scenario_record.specs.Readings.{Passes};
 ghost use Rattle.scenario_faults.specs.Checks.{spawn_fault, crowded_from, spawns_fault};
 
 use crate::each::{Test, at_element, each};
+use chunk_layout::COLUMN_ROOM;
 use ent_types::Registry;
 use ent_types::limits::{MOST_COLUMN_BYTES, MOST_ENTITIES};
 use expr_trees::PartExpr;
@@ -15,9 +16,6 @@ use std::alloc::Global;
 
 /// The bytes of the column of ids, for one row.
 const ID_BYTES: u32 = 64;
-
-/// The bytes of a block beside its header.
-const COLUMN_ROOM: u32 = 16_320;
 
 /// Returns the bytes of a column of one row: a multiple of 64.
 fn column_bytes(size: u32) -> u32
@@ -28,10 +26,10 @@ fn column_bytes(size: u32) -> u32
     size.next_multiple_of(64)
 }
 
-/// `true` if the columns of one row, with the column of its id, take more bytes than a block has for them.
+/// `true` if the columns of one row, with the column of its id, take more bytes than a block has for columns.
 #[tactic(auto, using(crate::proofs::RowLemmas::sums))]
 fn is_too_large(registry: &Registry, parts: &[PartExpr]) -> bool
-    ensures { result ≡ nat_lt 16320 (block_bytes (map (λ part. column_size (type_at registry.now part.ty.0)) parts.now) 1) }
+    ensures { result ≡ nat_lt COLUMN_ROOM (block_bytes (map (λ part. column_size (type_at registry.now part.ty.0)) parts.now) 1) }
 {
     let mut bytes = ID_BYTES;
     for part in parts {

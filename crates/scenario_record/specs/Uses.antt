@@ -29,6 +29,15 @@ pub data Use : Type 0 where
   -- what the command with this number makes
   made : ℕ → Use
 
+-- the type whose values a text reads in the own row, asks for by `on`, or looks up by `get`
+abbrev pub read_types : Use → List ℕ
+read_types (own_number ty i) = ty ∷ []
+read_types (own_ref ty i) = ty ∷ []
+read_types (looked_up ty i) = ty ∷ []
+read_types (has_type ty) = []
+read_types (on_type ty) = ty ∷ []
+read_types (made k) = []
+
 -- ---- the walk
 
 abbrev pub in_ref : RefExpr → List Use

@@ -143,7 +143,7 @@ pub fn bad(alloc: Global, cause: Cause) -> ScenarioFault
     })
 }
 
-/// Returns the fault with this path in place of its own, which has its bytes copied already.
+/// Returns the fault with this path instead of its own, which has its bytes copied already.
 fn at_path(fault: BadScenario, path: Result<KeyPath, Memory>) -> ScenarioFault
     ensures { IsAtPath fault path result }
 {
