@@ -1,4 +1,5 @@
--- A printed expression has the tokens of a tree that means it and fits where every name is allowed, whatever its operands are.
+-- A printed expression has the tokens of a tree that means it. The tree fits where every name is allowed, whatever its
+-- operands are.
 use Rattle.std.proofs.Common.{ℕ, suc, ◌≡◌, ◌+◌, List, [], ◌∷◌, ◌++◌, Bool, true, ◌&&◌, Some, codes, refl, sym, ap, ◌∙◌, subst, arith, append_assoc}
 use Rattle.std.proofs.lemmas.Bool.{and_parts}
 use Rattle.std.proofs.lemmas.List.{append-nil}

@@ -1,14 +1,21 @@
 //! Examples that are proved from the contracts alone, so that no body that differs here can meet its contract.
+use buffer_store::MOST_WIDTH;
 use chunk_layout::{MAX_COLUMNS, MAX_ROWS, MAX_SIZE};
-use ent_types::limits::{MOST_BLOCK_ROWS, MOST_COLUMN_BYTES, MOST_TYPES};
+use ent_types::limits::{
+    MOST_BLOCK_ROWS, MOST_BUFFER_FIELDS, MOST_COLUMN_BYTES, MOST_ELEMENTS, MOST_TYPES,
+};
 use ent_types::{FieldKind, Kind, SystemVersion, TypeId, TypeSet, fit};
 
-// The crate of layouts depends on no other, so it has its own names for these limits.
+// The crates of layouts and of buffers depend on no other, so they have their own names for these limits.
 const _: () = prove!(MAX_ROWS == MOST_BLOCK_ROWS);
 
 const _: () = prove!(MAX_COLUMNS == MOST_TYPES);
 
 const _: () = prove!(MAX_SIZE == MOST_COLUMN_BYTES);
+
+const _: () = prove!(buffer_store::MOST_ELEMENTS as usize == MOST_ELEMENTS);
+
+const _: () = prove!(MOST_WIDTH as usize == MOST_BUFFER_FIELDS);
 
 /// The version after the last one isn't 0.
 fn wraps() {
