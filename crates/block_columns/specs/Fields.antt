@@ -19,6 +19,8 @@ pub data FieldsState : Type 0 where
   Lists : BuffersState → FieldsState
 
 abbrev pub fields_of : Fields → FieldsState
+fields_of (fields.One c) = Columns (c ∷ [])
+fields_of (fields.Two c d) = Columns (c ∷ d ∷ [])
 fields_of (fields.Columns v) = Columns v.items
 fields_of (fields.Lists b) = Lists b
 

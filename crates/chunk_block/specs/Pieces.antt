@@ -22,8 +22,12 @@ abbrev pub after : Option (Box (List TypeState) Global) → List TypeState
 after None = []
 after (Some b) = b.value
 
+abbrev pub lent_from : Option TypeState → List TypeState
+lent_from None = []
+lent_from (Some x) = x ∷ []
+
 abbrev pub chain_step : Piece-F (List TypeState) → List TypeState
-chain_step p = p.rows ∷ after p.next
+chain_step p = lent_from p.rows ++ after p.next
 
 abbrev pub pieces_from : Piece → List TypeState
 pieces_from = fold-Piece (List TypeState) chain_step
@@ -32,11 +36,11 @@ abbrev pub pieces_in : Option (Box Piece Global) → List TypeState
 pieces_in None = []
 pieces_in (Some b) = pieces_from b.value
 
-abbrev pub rows_of : Piece → TypeState
+abbrev pub rows_of : Piece → Option TypeState
 rows_of p = (out-Piece p).rows
 
 abbrev pub place_of : Slot → Place
-place_of s = record { shape = s.shape; held = option_map (λ b. rows_of b.value) s.piece }
+place_of s = record { shape = s.shape; held = option_map (λ h. h.rows) s.held }
 
 abbrev pub places_of : List Slot → List Place
 places_of slots = map place_of slots
@@ -150,10 +154,6 @@ AreSmall (p ∷ ps) = (p.shape.ty.0 < 256) × AreSmall ps
 -- the place after these types were lent
 abbrev pub kept : List ℕ → Place → Place
 kept types p = if has_type types p.shape.ty.0 then record p { held = None } else p
-
-abbrev pub lent_from : Option TypeState → List TypeState
-lent_from None = []
-lent_from (Some x) = x ∷ []
 
 abbrev pub lent : List ℕ → Place → List TypeState
 lent types p = if has_type types p.shape.ty.0 then lent_from p.held else []
