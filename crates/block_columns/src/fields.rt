@@ -209,13 +209,7 @@ fn store_only(column: &mut Column, field: usize, numbers: &[i64], rows: &Mask)
 }
 
 /// Writes what one of two fields keeps of the numbers of some rows.
-fn store_either(
-    first: &mut Column,
-    second: &mut Column,
-    field: usize,
-    numbers: &[i64],
-    rows: &Mask,
-)
+fn store_either(first: &mut Column, second: &mut Column, field: usize, numbers: &[i64], rows: &Mask)
     requires there { field < 2 }
     requires can { CanStoreNumbers (length numbers.now) (column_at field (first.old ∷ second.old ∷ [])) }
     ensures { first.new ∷ second.new ∷ [] ≡ slice_set (first.old ∷ second.old ∷ []) field (stored_numbers rows.now numbers.now (column_at field (first.old ∷ second.old ∷ []))) }

@@ -1,5 +1,5 @@
 -- A box of a list, and the boxes after it.
-use Rattle.std.proofs.Common.{ℕ, ◌≡◌, ◌∙◌, sym, ap, refl, subst, Bool, true, false, cond, nat_eq, List, [], ◌∷◌, ◌++◌, Option, Some, None, Box}
+use Rattle.std.proofs.Common.{ℕ, ◌≡◌, ◌∙◌, sym, ap, refl, subst, false, cond, nat_eq, List, ◌∷◌, ◌++◌, Option, Some, None, Box}
 use Rattle.std.specs.Bool.{MatchBool}
 use Rattle.std.specs.declared.alloc.Global.{Global}
 use Rattle.block_columns.specs.Types.{TypeState}

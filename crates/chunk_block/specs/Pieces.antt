@@ -1,11 +1,11 @@
 -- What a block keeps of each of its types, and lists of what is lent.
-use Rattle.std.specs.Prelude.{ℕ, ℤ, ◌≡◌, ◌<◌, Bool, true, false, List, [], ◌∷◌, Option, Some, None, ◌++◌, Box, option_map, nat_eq, if◌then◌else◌, map, fold, length}
+use Rattle.std.specs.Prelude.{ℕ, ℤ, ◌≡◌, ◌<◌, Bool, false, List, [], ◌∷◌, Option, Some, None, ◌++◌, Box, option_map, nat_eq, if◌then◌else◌, map, fold, length}
 use Rattle.std.specs.Bool.{MatchBool}
 use Rattle.std.specs.List.{swap_remove}
 use Rattle.std.specs.declared.alloc.Global.{Global}
 use Rattle.ent_types.specs.TypeSets.{has_type}
 use Rattle.block_columns.specs.declared.shape.TypeShape.{TypeShape}
-use Rattle.block_columns.specs.Types.{TypeState, Content, blank_cell, cell_in, new_cell, kind_in, with_number_in, all_rows}
+use Rattle.block_columns.specs.Types.{TypeState, blank_cell, cell_in, new_cell, kind_in, with_number_in, all_rows}
 use Rattle.chunk_block.specs.declared.piece.Piece.{Piece, out-Piece}
 use Rattle.chunk_block.specs.declared.piece.Piece.TheOpen.{Piece-F}
 use Rattle.chunk_block.specs.declared.piece.Piece.TheFolds.{fold-Piece}

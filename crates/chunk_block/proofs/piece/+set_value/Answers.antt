@@ -1,8 +1,8 @@
-use Rattle.std.proofs.Common.{◌≡◌, ◌∙◌, sym, ap, nat_eq, not, length}
+use Rattle.std.proofs.Common.{◌∙◌, ap, nat_eq}
 use Rattle.ent_types.specs.declared.entity.TypeId.{TypeId}
-use Rattle.block_columns.specs.Types.{TypeState, with_value, one_row}
-use Rattle.chunk_block.specs.Pieces.{change_piece, stored_numbers}
-use Rattle.chunk_block.proofs.Boxes.{past_empty, past_other, in_empty, in_other}
+use Rattle.block_columns.specs.Types.{with_value, one_row}
+use Rattle.chunk_block.specs.Pieces.{change_piece}
+use Rattle.chunk_block.proofs.Boxes.{past_empty, past_other}
 use Rattle.chunk_block.proofs.piece.+set_value.Goals as goal
 
 pub returns-in-None-lent : goal.returns-in-None-lent

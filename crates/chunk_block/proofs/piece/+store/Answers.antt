@@ -1,7 +1,7 @@
-use Rattle.std.proofs.Common.{◌≡◌, ◌∙◌, sym, ap, nat_eq, not, length}
+use Rattle.std.proofs.Common.{◌∙◌, ap, nat_eq}
 use Rattle.ent_types.specs.declared.entity.TypeId.{TypeId}
 use Rattle.chunk_block.specs.Pieces.{change_piece, stored_numbers}
-use Rattle.chunk_block.proofs.Boxes.{past_empty, past_other, in_empty, in_other}
+use Rattle.chunk_block.proofs.Boxes.{past_empty, past_other}
 use Rattle.chunk_block.proofs.piece.+store.Goals as goal
 
 pub returns-in-None-lent : goal.returns-in-None-lent
