@@ -1,5 +1,5 @@
 -- The values of a row after a change of the columns or buffers of its type, and that these stay even.
-use Rattle.std.proofs.Common.{ℕ, ℤ, zero, suc, pos, negsuc, nat_le, inl, inr, ◌≡◌, ◌≢◌, ◌<◌, ◌≤◌, ◌+◌, ◌-◌, ◌⊎◌, ◌∙◌, Bool, true, false, cond, not, nat_eq, sym, ap, refl, subst, List, [], ◌∷◌, ◌++◌, length, get_or, map, arith, get_or-set_other, get_or-set_same}
+use Rattle.std.proofs.Common.{ℕ, ℤ, zero, suc, pos, negsuc, nat_le, inl, inr, ◌≡◌, ◌≢◌, ◌<◌, ◌≤◌, ◌+◌, ◌-◌, ◌⊎◌, ◌∙◌, Bool, true, false, cond, nat_eq, sym, ap, refl, subst, List, [], ◌∷◌, length, get_or, map, arith, get_or-set_other, get_or-set_same}
 use Rattle.std.proofs.Math.ListN.{set}
 use Rattle.std.proofs.Math.ListN as native
 use Rattle.std.proofs.Math.Seq.{map-set_same}
@@ -7,8 +7,7 @@ use Rattle.std.proofs.lemmas.Bool.{and_parts, leb-true, cases_eq, cases_lt, cond
 use Rattle.std.proofs.lemmas.List.{map-set, length-map, length-set, length_push, get_or-map, set-get_or, get_or_append_left, get_or_push}
 use Rattle.std.proofs.lemmas.Int.{int_wrap_fits}
 use Rattle.std.specs.Prelude.{FitsSigned, int_le, ◌&&◌}
-use Rattle.std.specs.Int.{int_wrap, w32, w64}
-use Rattle.std.specs.List.{swap_remove}
+use Rattle.std.specs.Int.{w32, w64}
 use Rattle.ent_types.specs.declared.entity.Entity.{Entity}
 use Rattle.ent_types.specs.declared.value.Value.{Value}
 use Rattle.ent_types.specs.declared.value.Value.TheVariants.{Int, Ref}
@@ -17,13 +16,12 @@ use Rattle.ent_types.specs.declared.kinds.FieldKind.TheVariants.{I32, I64, Ref a
 use Rattle.ent_types.specs.Fitting.{default_value, fit, fits_field}
 use Rattle.enable_bits.specs.Masks.{has, with_place, swapped_back}
 use Rattle.enable_bits.proofs.MaskLemmas.{has-with_place, has-swapped_back, has_past_128}
-use Rattle.block_columns.specs.Places.{tabulated, at_places}
-use Rattle.block_columns.specs.Columns.{ColumnState, value_at, number_at, reference_at, empty_column, pushed, swapped, written, with_number, with_reference, IsNumberKind}
+use Rattle.block_columns.specs.Columns.{ColumnState, value_at, number_at, reference_at, empty_column, pushed, swapped, written, with_number, with_reference}
 use Rattle.block_columns.specs.Buffers.{BuffersState}
-use Rattle.block_columns.specs.Fields.{FieldsState, Columns, Lists, no_column, column_at, values_in, AreEven, HaveRows, AreOf, HasColumn, AreLists, HasRow, HasList, TakesElements, CanStoreNumbers, CanStoreReferences, with_column, pushed_fields, swapped_fields, put_list, stored_numbers, stored_references, new_fields}
-use Rattle.block_columns.specs.Types.{Content, cell_at, IsEven, HasField, kind_in, new_cell, cell_in, with_value, with_off, with_values, with_number_in, with_reference_in, blank_cell}
+use Rattle.block_columns.specs.Fields.{FieldsState, Columns, Lists, no_column, column_at, values_in, AreEven, HaveRows, AreOf, HasColumn, AreLists, with_column, pushed_fields, swapped_fields, put_list, stored_numbers, stored_references, new_fields}
+use Rattle.block_columns.specs.Types.{cell_at, HasField, kind_in, with_value, with_number_in, with_reference_in}
 use Rattle.block_columns.specs.declared.shape.TypeShape.{TypeShape}
-use Rattle.block_columns.proofs.Lists.{source, swapped_at, length-swap_remove, length-at_places, get_or-at_places}
+use Rattle.block_columns.proofs.Lists.{source, swapped_at, length-swap_remove, get_or-at_places}
 
 -- ---- a value that fits is kept whole
 

@@ -1,22 +1,21 @@
 -- What contracts see of the rows of a type, after each call.
-use Rattle.std.proofs.Common.{ℕ, ℤ, pos, inl, inr, ◌≡◌, ◌≢◌, ◌<◌, ◌≤◌, ◌+◌, ◌-◌, ◌∙◌, Bool, true, false, cond, not, sym, ap, refl, subst, List, [], ◌∷◌, ◌++◌, length, get_or, map, arith, All}
+use Rattle.std.proofs.Common.{ℕ, ℤ, pos, inl, inr, ◌≡◌, ◌≢◌, ◌<◌, ◌≤◌, ◌+◌, ◌-◌, ◌∙◌, Bool, true, false, cond, not, sym, ap, subst, List, [], ◌∷◌, ◌++◌, length, get_or, map, arith}
 use Rattle.std.proofs.Math.ListN.{set}
 use Rattle.std.proofs.lemmas.List.{ext_get_or, length-map, get_or-map, get_or_past}
 use Rattle.std.proofs.lemmas.Bool.{cases_lt}
 use Rattle.std.specs.List.{swap_remove}
 use Rattle.ent_types.specs.declared.entity.Entity.{Entity}
 use Rattle.ent_types.specs.declared.value.Value.{Value}
-use Rattle.ent_types.specs.declared.value.Value.TheVariants.{Int, Ref}
-use Rattle.ent_types.specs.declared.kinds.FieldKind.{FieldKind}
+use Rattle.ent_types.specs.declared.value.Value.TheVariants.{Int}
 use Rattle.ent_types.specs.Fitting.{default_value, fits_field}
 use Rattle.buffer_store.specs.Buffers.{Buffer, buffer}
 use Rattle.enable_bits.specs.Masks.{has, with_place, swapped_back}
 use Rattle.block_columns.specs.Places.{tabulated, at_places}
 use Rattle.block_columns.specs.Columns.{ColumnState, value_at, written}
-use Rattle.block_columns.specs.Fields.{FieldsState, Columns, Lists, column_at, no_column, values_in, AreEven, HaveRows, AreOf, HasColumn, AreLists, with_column, pushed_fields, swapped_fields, put_list, stored_numbers, stored_references}
+use Rattle.block_columns.specs.Fields.{FieldsState, Columns, Lists, no_column, values_in, HaveRows, AreOf, HasColumn, AreLists, with_column, pushed_fields, swapped_fields, put_list, stored_numbers, stored_references}
 use Rattle.block_columns.specs.Types.{TypeState, Content, cell_at, IsEven, HasField, kind_in, new_cell, cell_in, with_value, with_off, with_values, with_number_in, with_reference_in, with_enabled_in, blank_cell}
 use Rattle.block_columns.specs.declared.shape.TypeShape.{TypeShape}
-use Rattle.block_columns.proofs.Lists.{source, length-tabulated, get_or-tabulated, pushed_table, swapped_table, set_table, changed_table, length-at_places}
+use Rattle.block_columns.proofs.Lists.{source, length-tabulated, get_or-tabulated, pushed_table, swapped_table, set_table, changed_table}
 use Rattle.block_columns.proofs.Rows.{even_at, row_written, row_unwritten, cell_stored, cell_referred, row_put, row_unput, row_before, row_new, row_after, bit_here, bit_other, bit_after}
 
 abbrev pub seen : TypeShape → ℕ → FieldsState → List ℕ → ℕ → TypeState

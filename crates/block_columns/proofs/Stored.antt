@@ -1,9 +1,8 @@
 -- The values of a column from its numbers or references, after some of these were written.
-use Rattle.std.proofs.Common.{ℕ, ℤ, pos, ◌+◌, ◌-◌, ◌≡◌, ◌<◌, ◌≤◌, ◌∙◌, Bool, true, false, cond, sym, ap, refl, subst, List, length, take, drop, ◌++◌, map, arith}
+use Rattle.std.proofs.Common.{ℕ, ℤ, pos, ◌≡◌, ◌<◌, ◌∙◌, Bool, true, false, cond, sym, ap, refl, subst, List, length, take, drop, ◌++◌, map, arith}
 use Rattle.std.proofs.lemmas.List.{length-map, get_or-map, ext_get_or}
 use Rattle.std.proofs.lemmas.Grind.{common_steps}
 use Rattle.ent_types.specs.declared.entity.Entity.{Entity}
-use Rattle.ent_types.specs.declared.value.Value.{Value}
 use Rattle.ent_types.specs.declared.value.Value.TheVariants.{Int, Ref}
 use Rattle.ent_types.specs.declared.kinds.FieldKind.{FieldKind}
 use Rattle.ent_types.specs.declared.kinds.FieldKind.TheVariants.{I32, I64, Ref as KindRef}

@@ -1,5 +1,5 @@
 -- The width of the elements of buffers, row by row.
-use Rattle.std.proofs.Common.{ℕ, zero, suc, ◌≡◌, ◌<◌, ◌-◌, ◌∙◌, ap, refl, List, [], ◌∷◌, ◌++◌, length, get_or, take, map, arith}
+use Rattle.std.proofs.Common.{ℕ, zero, suc, ◌≡◌, ◌<◌, ◌-◌, ap, List, [], ◌∷◌, ◌++◌, length, get_or, take, arith}
 use Rattle.std.proofs.Math.ListN.{set}
 use Rattle.std.specs.List.{swap_remove}
 use Rattle.ent_types.specs.declared.value.Value.{Value}

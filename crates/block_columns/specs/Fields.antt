@@ -3,10 +3,9 @@ use Rattle.std.specs.Prelude.{ℕ, ℤ, true, false, if◌then◌else◌, ◌≡
 use Rattle.std.specs.List.{swap_remove}
 use Rattle.ent_types.specs.declared.entity.Entity.{Entity}
 use Rattle.ent_types.specs.declared.value.Value.{Value}
-use Rattle.ent_types.specs.declared.kinds.FieldKind.{FieldKind}
 use Rattle.ent_types.specs.declared.kinds.FieldKind.TheVariants.{I32, Ref as KindRef}
 use Rattle.block_columns.specs.Places.{at_places}
-use Rattle.block_columns.specs.Columns.{ColumnState, value_at, empty_column, pushed, swapped, written, IsNumberKind, with_number, with_reference}
+use Rattle.block_columns.specs.Columns.{ColumnState, value_at, empty_column, pushed, swapped, IsNumberKind, with_number, with_reference}
 use Rattle.block_columns.specs.Buffers.{BuffersState}
 use Rattle.buffer_store.specs.Buffers.{Buffer}
 use Rattle.block_columns.specs.declared.shape.TypeShape.{TypeShape}
@@ -19,6 +18,8 @@ pub data FieldsState : Type 0 where
   Lists : BuffersState → FieldsState
 
 abbrev pub fields_of : Fields → FieldsState
+fields_of (fields.One c) = Columns (c ∷ [])
+fields_of (fields.Two c d) = Columns (c ∷ d ∷ [])
 fields_of (fields.Columns v) = Columns v.items
 fields_of (fields.Lists b) = Lists b
 

@@ -1,5 +1,5 @@
 -- The rows of one type, as the list of their cells.
-use Rattle.std.specs.Prelude.{ℕ, ℤ, pos, ◌≡◌, ◌<◌, ◌≤◌, Bool, true, false, not, ◌&&◌, List, [], ◌∷◌, map, length, nat_lt, slice_index_or, slice_set, if◌then◌else◌}
+use Rattle.std.specs.Prelude.{ℕ, ℤ, ◌≡◌, ◌<◌, ◌≤◌, Bool, true, false, not, List, [], map, length, slice_index_or, slice_set, if◌then◌else◌}
 use Rattle.ent_types.specs.declared.entity.Entity.{Entity}
 use Rattle.ent_types.specs.declared.value.Value.{Value}
 use Rattle.ent_types.specs.declared.value.Value.TheVariants.{Int, Ref}
@@ -9,7 +9,7 @@ use Rattle.ent_types.specs.Fitting.{default_value, fit, fits_field}
 use Rattle.enable_bits.specs.Masks.{has}
 use Rattle.buffer_store.specs.Buffers.{Buffer}
 use Rattle.block_columns.specs.Places.{at_places}
-use Rattle.block_columns.specs.Columns.{value_at, number_at, reference_at, IsNumberKind}
+use Rattle.block_columns.specs.Columns.{number_at, reference_at, IsNumberKind}
 use Rattle.block_columns.specs.Fields.{FieldsState, values_in, HaveRows, AreOf}
 use Rattle.block_columns.specs.declared.shape.TypeShape.{TypeShape}
 

@@ -1,9 +1,9 @@
 //! The columns or the buffers of one type.
-ghost use Rattle.std.specs.Prelude.{◌≡◌, ◌<◌, ◌≤◌, ℕ, length, map, slice_index_or, slice_set, IfOk, true, ⊤, []};
+ghost use Rattle.std.specs.Prelude.{◌≡◌, ◌<◌, ◌≤◌, ℕ, length, map, slice_index_or, slice_set, IfOk, true, ⊤, [], ◌∷◌};
 ghost use Rattle.buffer_store.specs.Buffers.{buffer};
 ghost use Rattle.block_columns.specs.Columns.{value_at, pushed, swapped, written, empty_column};
 ghost use Rattle.block_columns.specs.Slices.{slice_values};
-ghost use Rattle.block_columns.specs.Fields.{fields_of, new_fields, column_at, AreEven, HaveRows, HasColumn, AreLists, HasRow, HasList, TakesElements, CanStoreNumbers, CanStoreReferences, with_column, pushed_fields, swapped_fields, put_list, stored_numbers, stored_references};
+ghost use Rattle.block_columns.specs.Fields.{Columns, fields_of, new_fields, column_at, AreEven, HaveRows, HasColumn, AreLists, HasRow, HasList, TakesElements, CanStoreNumbers, CanStoreReferences, with_column, pushed_fields, swapped_fields, put_list, stored_numbers, stored_references};
 
 use crate::buffers::Buffers;
 use crate::column::{Column, ColumnSlice};
@@ -13,10 +13,15 @@ use enable_bits::Mask;
 use ent_types::{Entity, FieldKind, Memory, Value};
 use std::alloc::Global;
 
-/// What is kept of the fields of one type.
+/// What is kept of the fields of one type. Most types have one or two fields; their columns need no list, so that they are
+/// found without a further read of memory.
 #[derive(Drop)]
 pub enum Fields {
-    /// A column for each field. A tag has none.
+    /// The column of a type with one field.
+    One(Column),
+    /// The columns of a type with two fields.
+    Two(Column, Column),
+    /// A column for each field of another type. A tag has none.
     Columns(Vec<Column>),
     /// The elements of a buffer type.
     Lists(Buffers),
@@ -33,6 +38,21 @@ fn new_columns(alloc: Global, kinds: &[FieldKind], capacity: usize) -> Result<Ve
     Ok(columns)
 }
 
+/// Returns the columns of fields of these kinds with no row.
+fn new_few(alloc: Global, kinds: &[FieldKind], capacity: usize) -> Result<Fields, Memory>
+    ensures { IfOk result (λ f. fields_of f ≡ Columns (map (empty_column capacity) kinds.now)) }
+{
+    match kinds {
+        [one] => Ok(Fields::One(Column::new(alloc, *one, capacity)?)),
+        [first, second] => {
+            let first = Column::new(alloc, *first, capacity)?;
+            let second = Column::new(alloc, *second, capacity)?;
+            Ok(Fields::Two(first, second))
+        }
+        _ => Ok(Fields::Columns(new_columns(alloc, kinds, capacity)?)),
+    }
+}
+
 /// Returns the fields of a type with no row.
 pub(crate) fn new_fields(
     alloc: Global,
@@ -45,7 +65,7 @@ pub(crate) fn new_fields(
     if shape.is_buffer {
         Ok(Fields::Lists(Buffers::new(alloc, shape.kinds.len() as u8, capacity)?))
     } else {
-        Ok(Fields::Columns(new_columns(alloc, shape.kinds.as_slice(), capacity)?))
+        new_few(alloc, shape.kinds.as_slice(), capacity)
     }
 }
 
@@ -141,6 +161,94 @@ fn slice_in(columns: &Vec<Column>, field: usize) -> ColumnSlice<'_>
     columns[field].as_slice()
 }
 
+/// Returns the only column.
+fn only(column: &Column, field: usize) -> &Column
+    requires { field < 1 }
+    ensures { result.now ≡ column_at field (column.now ∷ []) }
+{
+    column
+}
+
+/// Returns the first of two columns or the second.
+fn either<'a>(first: &'a Column, second: &'a Column, field: usize) -> &'a Column
+    requires { field < 2 }
+    ensures { result.now ≡ column_at field (first.now ∷ second.now ∷ []) }
+{
+    if field == 0 { first } else { second }
+}
+
+/// Writes what the only field keeps of a value into a row.
+fn set_only(column: &mut Column, field: usize, row: usize, value: Value)
+    requires there { field < 1 }
+    requires within { row < length (column_at field (column.old ∷ [])).values }
+    ensures { column.new ∷ [] ≡ slice_set (column.old ∷ []) field (written row value (column_at field (column.old ∷ []))) }
+{
+    column.set(row, value);
+}
+
+/// Writes what one of two fields keeps of a value into a row.
+fn set_either(first: &mut Column, second: &mut Column, field: usize, row: usize, value: Value)
+    requires there { field < 2 }
+    requires within { row < length (column_at field (first.old ∷ second.old ∷ [])).values }
+    ensures { first.new ∷ second.new ∷ [] ≡ slice_set (first.old ∷ second.old ∷ []) field (written row value (column_at field (first.old ∷ second.old ∷ []))) }
+{
+    if field == 0 {
+        first.set(row, value);
+    } else {
+        second.set(row, value);
+    }
+}
+
+/// Writes what the only field keeps of the numbers of some rows.
+fn store_only(column: &mut Column, field: usize, numbers: &[i64], rows: &Mask)
+    requires there { field < 1 }
+    requires can { CanStoreNumbers (length numbers.now) (column_at field (column.old ∷ [])) }
+    ensures { column.new ∷ [] ≡ slice_set (column.old ∷ []) field (stored_numbers rows.now numbers.now (column_at field (column.old ∷ []))) }
+{
+    column.store(numbers, rows);
+}
+
+/// Writes what one of two fields keeps of the numbers of some rows.
+fn store_either(first: &mut Column, second: &mut Column, field: usize, numbers: &[i64], rows: &Mask)
+    requires there { field < 2 }
+    requires can { CanStoreNumbers (length numbers.now) (column_at field (first.old ∷ second.old ∷ [])) }
+    ensures { first.new ∷ second.new ∷ [] ≡ slice_set (first.old ∷ second.old ∷ []) field (stored_numbers rows.now numbers.now (column_at field (first.old ∷ second.old ∷ []))) }
+{
+    if field == 0 {
+        first.store(numbers, rows);
+    } else {
+        second.store(numbers, rows);
+    }
+}
+
+/// Writes the references of some rows into the only field.
+fn refer_only(column: &mut Column, field: usize, references: &[Entity], rows: &Mask)
+    requires there { field < 1 }
+    requires can { CanStoreReferences (length references.now) (column_at field (column.old ∷ [])) }
+    ensures { column.new ∷ [] ≡ slice_set (column.old ∷ []) field (stored_references rows.now references.now (column_at field (column.old ∷ []))) }
+{
+    column.store_references(references, rows);
+}
+
+/// Writes the references of some rows into one of two fields.
+fn refer_either(
+    first: &mut Column,
+    second: &mut Column,
+    field: usize,
+    references: &[Entity],
+    rows: &Mask,
+)
+    requires there { field < 2 }
+    requires can { CanStoreReferences (length references.now) (column_at field (first.old ∷ second.old ∷ [])) }
+    ensures { first.new ∷ second.new ∷ [] ≡ slice_set (first.old ∷ second.old ∷ []) field (stored_references rows.now references.now (column_at field (first.old ∷ second.old ∷ []))) }
+{
+    if field == 0 {
+        first.store_references(references, rows);
+    } else {
+        second.store_references(references, rows);
+    }
+}
+
 impl Fields {
     /// Adds a row of 0 or null, or with no element. There are `rows` rows, and there is room.
     pub(crate) fn push(&mut self, rows: usize, capacity: usize)
@@ -149,6 +257,11 @@ impl Fields {
         ensures { fields_of self.new ≡ pushed_fields (fields_of self.old) }
     {
         match self {
+            Fields::One(column) => column.push(),
+            Fields::Two(first, second) => {
+                first.push();
+                second.push();
+            }
             Fields::Columns(columns) => push_all(columns, rows, capacity),
             Fields::Lists(buffers) => buffers.push(),
         }
@@ -161,6 +274,11 @@ impl Fields {
         ensures { fields_of self.new ≡ swapped_fields row (fields_of self.old) }
     {
         match self {
+            Fields::One(column) => column.swap_remove(row),
+            Fields::Two(first, second) => {
+                first.swap_remove(row);
+                second.swap_remove(row);
+            }
             Fields::Columns(columns) => remove_all(columns, row, rows, capacity),
             Fields::Lists(buffers) => buffers.swap_remove(row),
         }
@@ -172,6 +290,8 @@ impl Fields {
         ensures { HasColumn field (λ c. result ≡ value_at row c.values) (fields_of self.now) }
     {
         match self {
+            Fields::One(column) => only(column, field).get(row),
+            Fields::Two(first, second) => either(first, second, field).get(row),
             Fields::Columns(columns) => get_in(columns, field, row),
             Fields::Lists(_) => unreachable!(),
         }
@@ -183,6 +303,8 @@ impl Fields {
         ensures { fields_of self.new ≡ with_column field (written row value) (fields_of self.old) }
     {
         match self {
+            Fields::One(column) => set_only(column, field, row, value),
+            Fields::Two(first, second) => set_either(first, second, field, row, value),
             Fields::Columns(columns) => set_in(columns, field, row, value),
             Fields::Lists(_) => unreachable!(),
         }
@@ -194,6 +316,8 @@ impl Fields {
         ensures { fields_of self.new ≡ with_column field (stored_numbers rows.now numbers.now) (fields_of self.old) }
     {
         match self {
+            Fields::One(column) => store_only(column, field, numbers, rows),
+            Fields::Two(first, second) => store_either(first, second, field, numbers, rows),
             Fields::Columns(columns) => store_in(columns, field, numbers, rows),
             Fields::Lists(_) => unreachable!(),
         }
@@ -205,6 +329,8 @@ impl Fields {
         ensures { fields_of self.new ≡ with_column field (stored_references rows.now references.now) (fields_of self.old) }
     {
         match self {
+            Fields::One(column) => refer_only(column, field, references, rows),
+            Fields::Two(first, second) => refer_either(first, second, field, references, rows),
             Fields::Columns(columns) => store_references_in(columns, field, references, rows),
             Fields::Lists(_) => unreachable!(),
         }
@@ -216,6 +342,8 @@ impl Fields {
         ensures { HasColumn field (λ c. slice_values result ≡ c.values) (fields_of self.now) }
     {
         match self {
+            Fields::One(column) => only(column, field).as_slice(),
+            Fields::Two(first, second) => either(first, second, field).as_slice(),
             Fields::Columns(columns) => slice_in(columns, field),
             Fields::Lists(_) => unreachable!(),
         }
@@ -227,6 +355,8 @@ impl Fields {
         ensures { AreLists (λ b. result.now ≡ buffer b.width (slice_index_or b.lists row [])) (fields_of self.now) }
     {
         match self {
+            Fields::One(_) => unreachable!(),
+            Fields::Two(_, _) => unreachable!(),
             Fields::Columns(_) => unreachable!(),
             Fields::Lists(buffers) => buffers.get(row),
         }
@@ -239,6 +369,8 @@ impl Fields {
         ensures new { fields_of self.new ≡ put_list row new.values (fields_of self.old) }
     {
         match self {
+            Fields::One(_) => unreachable!(),
+            Fields::Two(_, _) => unreachable!(),
             Fields::Columns(_) => unreachable!(),
             Fields::Lists(buffers) => buffers.put(row, new),
         }

@@ -91,7 +91,7 @@ pub(crate) fn true_rows(numbers: &[i64]) -> Mask
 }
 
 /// Copies numbers of 32 bits.
-fn widen(numbers: &[i32], out: &mut [i64])
+pub(crate) fn widen(numbers: &[i32], out: &mut [i64])
     requires { length out.old ≡ length numbers.now }
     ensures { out.new ≡ numbers.now }
 {
@@ -101,7 +101,7 @@ fn widen(numbers: &[i32], out: &mut [i64])
 }
 
 /// Copies numbers.
-fn copy(numbers: &[i64], out: &mut [i64])
+pub(crate) fn copy(numbers: &[i64], out: &mut [i64])
     requires { length out.old ≡ length numbers.now }
     ensures { out.new ≡ numbers.now }
 {

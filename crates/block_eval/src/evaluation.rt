@@ -13,7 +13,7 @@ use crate::columns::{
     copy_references, count_from, fill, fill_references, indexes, numbers_of, references_of,
     true_rows, truth, truths, versions,
 };
-use crate::operators::{combine, combine_field, combine_number, pick_all, unary_all};
+use crate::operators::{combine, combine_field, combine_fields, combine_number, pick_all, unary_all};
 use crate::reader::{BlockRows, MOST_ROWS};
 use enable_bits::Mask;
 use ent_types::{Entity, TypeId};
@@ -45,6 +45,26 @@ fn with_field<B: BlockRows>(block: &B, op: BinaryOp, ty: TypeId, field: u8, left
     ensures { HoldsNumbers left.new (B.rows block.now) (λ k. combined op (number_at k left.old) (number ((B.own_row block.now k).field ty field))) }
 {
     combine_field(op, left, block.column(ty, field));
+}
+
+/// Fills a column with the combinations of two fields.
+fn with_fields<B: BlockRows>(
+    block: &B,
+    op: BinaryOp,
+    ty: TypeId,
+    field: u8,
+    right_ty: TypeId,
+    right_field: u8,
+    out: &mut [i64],
+)
+    requires rows { length out.old ≡ B.rows block.now }
+    requires left { B.has_field block.now ty field ≡ true }
+    requires right { B.has_field block.now right_ty right_field ≡ true }
+    ensures { HoldsNumbers out.new (B.rows block.now) (λ k. combined op (number ((B.own_row block.now k).field ty field)) (number ((B.own_row block.now k).field right_ty right_field))) }
+{
+    let left = block.column(ty, field);
+    let right = block.column(right_ty, right_field);
+    combine_fields(op, left, right, out);
 }
 
 /// Fills a column with 1 for each row that has the type enabled, and 0 for each other row.
@@ -232,14 +252,26 @@ pub fn evaluate<B: BlockRows, L: Lookup>(e: &Expr, block: &B, lookup: &L, out: &
             evaluate(a.get(), block, lookup, out);
             unary_all(*op, out);
         }
-        Expr::Binary(op, a, b) => {
-            evaluate(a.get(), block, lookup, out);
-            match b.get() {
-                Expr::Number(z) => combine_number(*op, out, *z),
-                Expr::Own { ty, field } => with_field(block, *op, *ty, *field, out),
-                _ => with_right(b.get(), *op, block, lookup, out),
+        Expr::Binary(op, a, b) => match b.get() {
+            Expr::Number(z) => {
+                evaluate(a.get(), block, lookup, out);
+                combine_number(*op, out, *z);
             }
-        }
+            Expr::Own { ty, field } => match a.get() {
+                Expr::Own {
+                    ty: left_ty,
+                    field: left_field,
+                } => with_fields(block, *op, *left_ty, *left_field, *ty, *field, out),
+                _ => {
+                    evaluate(a.get(), block, lookup, out);
+                    with_field(block, *op, *ty, *field, out);
+                }
+            },
+            _ => {
+                evaluate(a.get(), block, lookup, out);
+                with_right(b.get(), *op, block, lookup, out);
+            }
+        },
         Expr::Pick(c, a, b) => {
             evaluate(b.get(), block, lookup, out);
             with_pick(c.get(), a.get(), block, lookup, out);

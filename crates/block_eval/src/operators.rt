@@ -5,29 +5,30 @@ ghost use Rattle.block_columns.specs.Columns.{number_at, value_at, HoldsNumbers}
 ghost use Rattle.block_columns.specs.Slices.{slice_values};
 ghost use Rattle.block_eval.specs.Columns.{combined};
 
+use crate::columns::{copy, fill, widen};
 use block_columns::ColumnSlice;
 use expr_eval::{binary, is_true, unary};
 use expr_trees::{BinaryOp, UnaryOp};
 
 /// Calls a loop over the rows with the operator as a constant, so that the loop's body is that operator alone.
 macro_rules! with_constant {
-    ($op:expr, $rows:ident, $left:expr, $right:expr) => {
+    ($op:expr, $rows:ident, $($given:expr),*) => {
         match $op {
-            BinaryOp::Or => $rows(BinaryOp::Or, $left, $right),
-            BinaryOp::And => $rows(BinaryOp::And, $left, $right),
-            BinaryOp::Equal => $rows(BinaryOp::Equal, $left, $right),
-            BinaryOp::NotEqual => $rows(BinaryOp::NotEqual, $left, $right),
-            BinaryOp::Less => $rows(BinaryOp::Less, $left, $right),
-            BinaryOp::LessEqual => $rows(BinaryOp::LessEqual, $left, $right),
-            BinaryOp::Greater => $rows(BinaryOp::Greater, $left, $right),
-            BinaryOp::GreaterEqual => $rows(BinaryOp::GreaterEqual, $left, $right),
-            BinaryOp::Plus => $rows(BinaryOp::Plus, $left, $right),
-            BinaryOp::Minus => $rows(BinaryOp::Minus, $left, $right),
-            BinaryOp::Times => $rows(BinaryOp::Times, $left, $right),
-            BinaryOp::Divide => $rows(BinaryOp::Divide, $left, $right),
-            BinaryOp::Rest => $rows(BinaryOp::Rest, $left, $right),
-            BinaryOp::Min => $rows(BinaryOp::Min, $left, $right),
-            BinaryOp::Max => $rows(BinaryOp::Max, $left, $right),
+            BinaryOp::Or => $rows(BinaryOp::Or, $($given),*),
+            BinaryOp::And => $rows(BinaryOp::And, $($given),*),
+            BinaryOp::Equal => $rows(BinaryOp::Equal, $($given),*),
+            BinaryOp::NotEqual => $rows(BinaryOp::NotEqual, $($given),*),
+            BinaryOp::Less => $rows(BinaryOp::Less, $($given),*),
+            BinaryOp::LessEqual => $rows(BinaryOp::LessEqual, $($given),*),
+            BinaryOp::Greater => $rows(BinaryOp::Greater, $($given),*),
+            BinaryOp::GreaterEqual => $rows(BinaryOp::GreaterEqual, $($given),*),
+            BinaryOp::Plus => $rows(BinaryOp::Plus, $($given),*),
+            BinaryOp::Minus => $rows(BinaryOp::Minus, $($given),*),
+            BinaryOp::Times => $rows(BinaryOp::Times, $($given),*),
+            BinaryOp::Divide => $rows(BinaryOp::Divide, $($given),*),
+            BinaryOp::Rest => $rows(BinaryOp::Rest, $($given),*),
+            BinaryOp::Min => $rows(BinaryOp::Min, $($given),*),
+            BinaryOp::Max => $rows(BinaryOp::Max, $($given),*),
         }
     };
 }
@@ -81,6 +82,18 @@ fn combine_number_rows(op: BinaryOp, left: &mut [i64], right: i64)
     }
 }
 
+/// Fills a column with the combinations of two columns of 32 bits.
+#[inline(always)]
+fn combine_two_rows(op: BinaryOp, left: &[i32], right: &[i32], out: &mut [i64])
+    requires left { length out.old ≡ length left.now }
+    requires right { length out.old ≡ length right.now }
+    ensures { HoldsNumbers out.new (length out.old) (λ k. combined op (number_at k left.now) (number_at k right.now)) }
+{
+    for i in 0..out.len() {
+        out[i] = combined(op, i64::from(left[i]), i64::from(right[i]));
+    }
+}
+
 /// Combines a column with another one.
 #[inline(never)]
 pub(crate) fn combine(op: BinaryOp, left: &mut [i64], right: &[i64])
@@ -97,6 +110,16 @@ fn combine_narrow(op: BinaryOp, left: &mut [i64], right: &[i32])
     ensures { HoldsNumbers left.new (length left.old) (λ k. combined op (number_at k left.old) (number_at k right.now)) }
 {
     with_constant!(op, combine_narrow_rows, left, right)
+}
+
+/// Fills a column with the combinations of two columns of 32 bits.
+#[inline(never)]
+fn combine_two(op: BinaryOp, left: &[i32], right: &[i32], out: &mut [i64])
+    requires left { length out.old ≡ length left.now }
+    requires right { length out.old ≡ length right.now }
+    ensures { HoldsNumbers out.new (length out.old) (λ k. combined op (number_at k left.now) (number_at k right.now)) }
+{
+    with_constant!(op, combine_two_rows, left, right, out)
 }
 
 /// Combines a column with a number.
@@ -118,6 +141,51 @@ pub(crate) fn combine_field(op: BinaryOp, left: &mut [i64], right: ColumnSlice<'
         ColumnSlice::I32(numbers) => combine_narrow(op, left, numbers),
         ColumnSlice::I64(numbers) => combine(op, left, numbers),
         ColumnSlice::Refs(_) => combine_number(op, left, 0),
+    }
+}
+
+/// Fills a column with the combinations of a column of 32 bits and a field.
+#[tactic(auto, using(crate::proofs::Slices::slices))]
+fn combine_narrow_field(op: BinaryOp, left: &[i32], right: ColumnSlice<'_>, out: &mut [i64])
+    requires left { length out.old ≡ length left.now }
+    requires right { length out.old ≡ length (slice_values right) }
+    ensures { HoldsNumbers out.new (length out.old) (λ k. combined op (number_at k left.now) (number (value_at k (slice_values right.entry)))) }
+{
+    match right {
+        ColumnSlice::I32(numbers) => combine_two(op, left, numbers, out),
+        ColumnSlice::I64(numbers) => {
+            widen(left, out);
+            combine(op, out, numbers);
+        }
+        ColumnSlice::Refs(_) => {
+            widen(left, out);
+            combine_number(op, out, 0);
+        }
+    }
+}
+
+/// Fills a column with the combinations of two fields. Fields of 32 bits, which are the most, are read once.
+#[tactic(auto, using(crate::proofs::Slices::slices))]
+pub(crate) fn combine_fields(
+    op: BinaryOp,
+    left: ColumnSlice<'_>,
+    right: ColumnSlice<'_>,
+    out: &mut [i64],
+)
+    requires left { length out.old ≡ length (slice_values left) }
+    requires right { length out.old ≡ length (slice_values right) }
+    ensures { HoldsNumbers out.new (length out.old) (λ k. combined op (number (value_at k (slice_values left.entry))) (number (value_at k (slice_values right.entry)))) }
+{
+    match left {
+        ColumnSlice::I32(numbers) => combine_narrow_field(op, numbers, right, out),
+        ColumnSlice::I64(numbers) => {
+            copy(numbers, out);
+            combine_field(op, out, right);
+        }
+        ColumnSlice::Refs(_) => {
+            fill(0, out);
+            combine_field(op, out, right);
+        }
     }
 }
 

@@ -1,2 +1,4 @@
 pub mod Orders
+pub mod Rows
 pub mod Restored
+pub mod Written

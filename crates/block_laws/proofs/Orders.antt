@@ -23,25 +23,25 @@ types_twice (t ∷ ts) x y apart = by (nat_eq t.shape.ty.0 x.shape.ty.0) (nat_eq
     by false true e f rest = rw (f, e) refl
     by false false e f rest = rw (f, e) (ap (λ (us : List BlockType). t ∷ us) rest)
 
-cells_twice : (t u : ℕ) (a b : Content) (cs : List Cell) → nat_eq t u ≡ false → change_cell u (λ _. b) (change_cell t (λ _. a) cs) ≡ change_cell t (λ _. a) (change_cell u (λ _. b) cs)
-cells_twice t u a b [] apart = refl
-cells_twice t u a b (c ∷ cs) apart = by (nat_eq c.type_id t) (nat_eq c.type_id u) refl refl (cells_twice t u a b cs apart)
+pub cells_twice : (t u : ℕ) (g h : Content → Content) (cs : List Cell) → nat_eq t u ≡ false → change_cell u h (change_cell t g cs) ≡ change_cell t g (change_cell u h cs)
+cells_twice t u g h [] apart = refl
+cells_twice t u g h (c ∷ cs) apart = by (nat_eq c.type_id t) (nat_eq c.type_id u) refl refl (cells_twice t u g h cs apart)
   where
-    by : (p q : Bool) → nat_eq c.type_id t ≡ p → nat_eq c.type_id u ≡ q → change_cell u (λ _. b) (change_cell t (λ _. a) cs) ≡ change_cell t (λ _. a) (change_cell u (λ _. b) cs)
-        → change_cell u (λ _. b) (cond p (with_content a c ∷ cs) (c ∷ change_cell t (λ _. a) cs)) ≡ change_cell t (λ _. a) (cond q (with_content b c ∷ cs) (c ∷ change_cell u (λ _. b) cs))
+    by : (p q : Bool) → nat_eq c.type_id t ≡ p → nat_eq c.type_id u ≡ q → change_cell u h (change_cell t g cs) ≡ change_cell t g (change_cell u h cs)
+        → change_cell u h (cond p (with_content (g (content_of c)) c ∷ cs) (c ∷ change_cell t g cs)) ≡ change_cell t g (cond q (with_content (h (content_of c)) c ∷ cs) (c ∷ change_cell u h cs))
     by true true e f rest = absurd (not_both c.type_id t u e f apart)
     by true false e f rest = rw (f, e) refl
     by false true e f rest = rw (f, e) refl
     by false false e f rest = rw (f, e) (ap (λ (ds : List Cell). c ∷ ds) rest)
 
-places_twice : (f g : ℕ → Row → Row) → ((k : ℕ) (r : Row) → g k (f k r) ≡ f k (g k r)) → (k : ℕ) (rows : List Row) → at_places g k (at_places f k rows) ≡ at_places f k (at_places g k rows)
+pub places_twice : (f g : ℕ → Row → Row) → ((k : ℕ) (r : Row) → g k (f k r) ≡ f k (g k r)) → (k : ℕ) (rows : List Row) → at_places g k (at_places f k rows) ≡ at_places f k (at_places g k rows)
 places_twice f g same k [] = refl
 places_twice f g same k (r ∷ rows) = ap (λ (s : Row). s ∷ at_places g (k + 1) (at_places f (k + 1) rows)) (same k r) ∙ ap (λ (rs : List Row). f k (g k r) ∷ rs) (places_twice f g same (k + 1) rows)
 
 rows_twice : (rows : List Row) (x y : TypeState) → nat_eq x.shape.ty.0 y.shape.ty.0 ≡ false → given_rows (given_rows rows x) y ≡ given_rows (given_rows rows y) x
 rows_twice rows x y apart =
     places_twice (λ k r. changed x.shape.ty.0 (λ _. cell_in k x.cells) r) (λ k r. changed y.shape.ty.0 (λ _. cell_in k y.cells) r)
-    (λ k r. ap (λ (cs : List Cell). record r { cells = cs }) (cells_twice x.shape.ty.0 y.shape.ty.0 (cell_in k x.cells) (cell_in k y.cells) r.cells apart)) 0 rows
+    (λ k r. ap (λ (cs : List Cell). record r { cells = cs }) (cells_twice x.shape.ty.0 y.shape.ty.0 (λ _. cell_in k x.cells) (λ _. cell_in k y.cells) r.cells apart)) 0 rows
 
 -- ---- several pieces
 

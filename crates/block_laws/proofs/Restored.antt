@@ -8,17 +8,8 @@ use Rattle.world_model.specs.Row.{Row, Cell}
 use Rattle.block_columns.specs.Places.{at_places}
 use Rattle.block_columns.specs.Types.{TypeState, Content, blank_cell, cell_in}
 use Rattle.block_columns.proofs.Lists.{length-at_places, get_or-at_places}
+use Rattle.block_laws.proofs.Rows.{or_parts, other_way, itself, put_cell, put_row, row_cells, row_given, rows_count, have_there}
 use Rattle.chunk_block.specs.Blocks.{BlockType, BlockState, AreDistinct, AreHeld, HaveTypes, column_types, content_of, content_at, with_content, change_cell, changed, no_row, row_in, lent_type, lent_cell, lent_row, lent_piece, given_type, given_rows}
-
-or_parts : (a b : Bool) → (a || b) ≡ false → (a ≡ false) × (b ≡ false)
-or_parts false b h = (refl, h)
-or_parts true b h = cc
-
-other_way : (m n : ℕ) → nat_eq m n ≡ false → nat_eq n m ≡ false
-other_way m n = grind (arith, nat_tests)
-
-itself : (m : ℕ) → nat_eq m m ≡ true
-itself m = grind (arith, nat_tests)
 
 module _ (types : List ℕ) (cap : ℕ) (rows : List Row) where
   -- the pieces that these types give to a loan
@@ -61,9 +52,6 @@ module _ (types : List ℕ) (cap : ℕ) (rows : List Row) where
       by false is rest = type_past x (map (lent_type types) xs) xs distinct.0 ∙ ap (λ (us : List BlockType). x ∷ us) rest
 
   -- ---- the cells of the row at place k
-
-  abbrev put_cell : ℕ → List Cell → TypeState → List Cell
-  put_cell k cs z = change_cell z.shape.ty.0 (λ _. cell_in k z.cells) cs
 
   cell_past : (k : ℕ) (c : Cell) (cs : List Cell) (xs : List BlockType) → has_type (column_types xs) c.type_id ≡ false → fold (put_cell k) (c ∷ cs) (pieces xs) ≡ c ∷ fold (put_cell k) cs (pieces xs)
   cell_past k c cs [] other = refl
@@ -119,29 +107,6 @@ module _ (types : List ℕ) (cap : ℕ) (rows : List Row) where
           ∙ (ap (λ (es : List Cell). full ∷ es) rest ∙ ap (λ (y : Content). with_content y c ∷ cs) content))
 
   -- ---- the rows
-
-  abbrev put_row : ℕ → Row → TypeState → Row
-  put_row k r z = changed z.shape.ty.0 (λ _. cell_in k z.cells) r
-
-  row_cells : (k : ℕ) (r : Row) (zs : List TypeState) → fold (put_row k) r zs ≡ record r { cells = fold (put_cell k) r.cells zs }
-  row_cells k r [] = refl
-  row_cells k r (z ∷ zs) = row_cells k (put_row k r z) zs
-
-  row_given : (zs : List TypeState) (rs : List Row) (k : ℕ) → k < length rs → row_in k (fold given_rows rs zs) ≡ fold (put_row k) (row_in k rs) zs
-  row_given [] rs k within = refl
-  row_given (z ∷ zs) rs k within =
-      let f = λ (j : ℕ) (r : Row). put_row j r z in
-      row_given zs (given_rows rs z) k (subst (λ m. k < m) (sym (length-at_places f 0 rs)) within)
-      ∙ ap (λ (r : Row). fold (put_row k) r zs) (get_or-at_places f rs k no_row within)
-
-  rows_count : (zs : List TypeState) (rs : List Row) → length (fold given_rows rs zs) ≡ length rs
-  rows_count [] rs = refl
-  rows_count (z ∷ zs) rs = rows_count zs (given_rows rs z) ∙ length-at_places (λ j r. put_row j r z) 0 rs
-
-  have_there : (ts : List ℕ) (rs : List Row) (k : ℕ) → k < length rs → HaveTypes ts rs → map (λ c. c.type_id) (row_in k rs).cells ≡ ts
-  have_there ts [] k within have = absurd (omega arith)
-  have_there ts (r ∷ rs) zero within have = have.0
-  have_there ts (r ∷ rs) (suc k) within have = have_there ts rs k (omega arith) have.1
 
   pub rows_restored : (xs : List BlockType) → AreDistinct (column_types xs) → HaveTypes (column_types xs) rows → fold given_rows (map (lent_row types) rows) (pieces xs) ≡ rows
   rows_restored xs distinct have =

@@ -1,13 +1,13 @@
 -- Worked examples: a block of two rows and two types, and what comes back into it.
-use Rattle.std.specs.Prelude.{ℕ, ℤ, pos, Bool, true, false, List, [], ◌∷◌, map}
-use Rattle.std.specs.List.{flat_map}
+use Rattle.std.specs.Prelude.{ℕ, ℤ, pos, Bool, true, false, List, [], ◌∷◌}
 use Rattle.ent_types.specs.declared.kinds.FieldKind.TheVariants.{I32}
 use Rattle.ent_types.specs.declared.value.Value.TheVariants.{Int}
 use Rattle.world_model.specs.Row.{Row}
 use Rattle.block_columns.specs.Types.{TypeState, one_row, with_value, with_off}
 use Rattle.block_columns.specs.declared.shape.TypeShape.{TypeShape}
 use Rattle.chunk_block.specs.Pieces.{change_piece}
-use Rattle.chunk_block.specs.Blocks.{BlockType, BlockState, LoanState, lent_type, lent_row, lent_piece}
+use Rattle.chunk_block.specs.Blocks.{BlockType, BlockState, LoanState}
+use Rattle.block_laws.specs.Lending.{lent_pieces}
 
 -- type 3 has an i32 field, type 5 is a tag; both can be disabled
 abbrev pub number_type : BlockType
@@ -37,12 +37,9 @@ block_of rows = record {
 abbrev pub block : BlockState
 block = block_of (row 8 (pos 10) false false ∷ row 9 (pos 20) false false ∷ [])
 
--- the block after some types were lent, and the loan
-abbrev pub after_lending : List ℕ → BlockState → BlockState
-after_lending types b = record b { columns = map (lent_type types) b.columns; rows = map (lent_row types) b.rows }
-
+-- the loan of some types
 abbrev pub loan_of : List ℕ → BlockState → LoanState
-loan_of types b = record { number = 0; types = types; pieces = flat_map (lent_piece types b.capacity b.rows) b.columns }
+loan_of types b = record { number = 0; types = types; pieces = lent_pieces types b }
 
 -- the loan with 21 in the second row
 abbrev pub with_21 : LoanState → LoanState

@@ -1,7 +1,7 @@
 //! Worked examples of loans that were written.
 ghost use Rattle.std.specs.Prelude.{◌≡◌, [], ◌∷◌, pos, true, false};
-ghost use Rattle.block_laws.specs.Lending.{given_back};
-ghost use Rattle.block_laws.specs.Worked.{block, block_of, row, after_lending, loan_of, with_21, with_disabled};
+ghost use Rattle.block_laws.specs.Lending.{after_lending, given_back};
+ghost use Rattle.block_laws.specs.Worked.{block, block_of, row, loan_of, with_21, with_disabled};
 
 /// A number is written into the second row of a loan. It is in that row when the loan is back, and nothing else changed.
 pub fn one_number()

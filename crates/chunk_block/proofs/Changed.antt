@@ -1,5 +1,5 @@
 -- The rows of a block after one of its types was changed.
-use Rattle.std.proofs.Common.{ℕ, ℤ, ◌≡◌, ◌≢◌, ◌<◌, ◌≤◌, ◌∙◌, Bool, true, false, cond, nat_eq, sym, ap, refl, List, [], ◌∷◌, length, get_or, map, arith, subst, Option, Some, None, get_or-set_other, get_or-set_same}
+use Rattle.std.proofs.Common.{ℕ, ◌≡◌, ◌<◌, ◌≤◌, ◌∙◌, Bool, true, false, cond, nat_eq, sym, ap, refl, List, [], ◌∷◌, length, get_or, map, arith, subst, Option, Some, None, get_or-set_other, get_or-set_same}
 use Rattle.std.specs.Prelude.{option_map, is_none}
 use Rattle.std.specs.Bool.{MatchBool}
 use Rattle.std.proofs.Math.ListN.{set}
@@ -10,8 +10,7 @@ use Rattle.enable_bits.specs.Masks.{has, with_place}
 use Rattle.world_model.specs.Row.{Row, Cell}
 use Rattle.block_columns.specs.Places.{tabulated, at_places}
 use Rattle.block_columns.specs.Types.{TypeState, Content, blank_cell, cell_in, one_row, all_rows}
-use Rattle.block_columns.specs.declared.shape.TypeShape.{TypeShape}
-use Rattle.block_columns.proofs.Lists.{set_table, changed_table, length-at_places, get_or-at_places, get_or-tabulated}
+use Rattle.block_columns.proofs.Lists.{set_table, changed_table, length-at_places}
 use Rattle.block_columns.proofs.Rows.{bit_here, bit_other, past_switch}
 use Rattle.chunk_block.specs.Pieces.{Place, IsHeld, IsIfHeld, OfPlace, change_place, AreSmall}
 use Rattle.chunk_block.specs.Blocks.{BlockType, type_of, place_cell, held_content, row_at, row_in, no_row, changed, change_cell, Suits, AllSuit, place_types, AreDistinct, IsSound}

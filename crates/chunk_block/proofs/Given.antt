@@ -1,17 +1,16 @@
 -- The rows of a block to which a loan came back.
-use Rattle.std.proofs.Common.{ℕ, ◌≡◌, ◌<◌, ◌≤◌, ◌∙◌, Bool, true, false, cond, nat_eq, sym, ap, refl, List, [], ◌∷◌, length, get_or, map, fold, subst, Option, Some, None}
-use Rattle.std.specs.Prelude.{is_none}
+use Rattle.std.proofs.Common.{ℕ, ◌≡◌, ◌∙◌, Bool, true, false, cond, nat_eq, sym, ap, refl, List, [], ◌∷◌, length, get_or, map, fold, subst, Some}
 use Rattle.std.specs.Bool.{MatchBool}
 use Rattle.ent_types.specs.declared.entity.Entity.{Entity}
 use Rattle.ent_types.specs.Fitting.{null_entity}
 use Rattle.enable_bits.specs.Masks.{has}
 use Rattle.world_model.specs.Row.{Row, Cell}
-use Rattle.block_columns.specs.Places.{tabulated, at_places}
-use Rattle.block_columns.specs.Types.{TypeState, Content, cell_in}
+use Rattle.block_columns.specs.Places.{tabulated}
+use Rattle.block_columns.specs.Types.{TypeState, cell_in}
 use Rattle.block_columns.specs.declared.shape.TypeShape.{TypeShape}
 use Rattle.block_columns.proofs.Lists.{changed_table}
-use Rattle.chunk_block.specs.Pieces.{Place, IsIfHeld, put, put_all, AreSmall}
-use Rattle.chunk_block.specs.Blocks.{BlockType, BlockState, type_of, place_cell, held_content, row_at, no_row, changed, change_cell, given_type, given_rows, HasShape, ArePiecesOf, Suits, AllSuit, place_types, AreDistinct, IsSound}
+use Rattle.chunk_block.specs.Pieces.{Place, put, put_all, AreSmall}
+use Rattle.chunk_block.specs.Blocks.{BlockType, type_of, place_cell, row_at, no_row, changed, change_cell, given_type, given_rows, HasShape, AllSuit, place_types, AreDistinct, IsSound}
 
 cells_put : (k : ℕ) (x : TypeState) (ps : List Place) → map (place_cell k) (put ps x) ≡ change_cell x.shape.ty.0 (λ _. cell_in k x.cells) (map (place_cell k) ps)
 cells_put k x [] = refl

@@ -1,6 +1,6 @@
 -- The rows of a block of which some types were lent, and what the loan has.
-use Rattle.std.proofs.Common.{ℕ, zero, suc, inl, inr, ◌≡◌, ◌<◌, ◌≤◌, ◌+◌, ◌∙◌, Bool, true, false, cond, nat_eq, ◌||◌, sym, ap, refl, List, [], ◌∷◌, ◌++◌, length, get_or, map, arith, subst, Option, Some, None}
-use Rattle.std.specs.Prelude.{option_map, is_none, ◌==◌}
+use Rattle.std.proofs.Common.{ℕ, zero, suc, inl, inr, ◌≡◌, ◌<◌, ◌+◌, ◌∙◌, Bool, true, false, cond, nat_eq, ◌||◌, sym, ap, refl, List, [], ◌∷◌, ◌++◌, get_or, map, subst, Option, Some, None}
+use Rattle.std.specs.Prelude.{is_none, ◌==◌}
 use Rattle.std.specs.List.{flat_map}
 use Rattle.std.proofs.lemmas.Bool.{cases_eq, cond-true, eq-eqb, ne_eqb}
 use Rattle.std.proofs.lemmas.List.{ext_get_or, length-map, get_or-map}
@@ -12,9 +12,9 @@ use Rattle.world_model.specs.Row.{Row, Cell}
 use Rattle.block_columns.specs.Places.{tabulated}
 use Rattle.block_columns.specs.Types.{TypeState, Content, blank_cell, cell_in}
 use Rattle.block_columns.specs.declared.shape.TypeShape.{TypeShape}
-use Rattle.block_columns.proofs.Lists.{length-tabulated, get_or-tabulated}
+use Rattle.block_columns.proofs.Lists.{length-tabulated}
 use Rattle.chunk_block.specs.Pieces.{Place, IsIfHeld, kept, lent, lent_from, AreSmall}
-use Rattle.chunk_block.specs.Blocks.{BlockType, type_of, content_of, content_at, with_content, place_cell, held_content, row_at, row_in, no_row, lent_cell, lent_row, lent_type, lent_piece, AreHeld, Suits, AllSuit, place_types, AreDistinct, IsSound}
+use Rattle.chunk_block.specs.Blocks.{BlockType, type_of, content_of, content_at, with_content, place_cell, held_content, row_at, no_row, lent_cell, lent_row, lent_type, lent_piece, AreHeld, Suits, AllSuit, place_types, AreDistinct, IsSound}
 use Rattle.chunk_block.proofs.Places.{row_there}
 
 -- ---- the block's rows

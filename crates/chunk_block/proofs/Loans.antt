@@ -1,5 +1,5 @@
 -- What a caller knows of the loans of a block: which are its own, and what they have.
-use Rattle.std.proofs.Common.{ℕ, zero, suc, inl, inr, ◌≡◌, ◌<◌, ◌∙◌, ◌||◌, Bool, true, false, cond, nat_eq, sym, ap, refl, subst, List, [], ◌∷◌, ◌++◌, length, map, fold}
+use Rattle.std.proofs.Common.{ℕ, inl, inr, ◌≡◌, ◌∙◌, ◌||◌, Bool, true, false, cond, nat_eq, sym, ap, refl, subst, List, [], ◌∷◌, ◌++◌, length, map, fold}
 use Rattle.std.specs.Prelude.{◌==◌}
 use Rattle.std.specs.Bool.{MatchBool}
 use Rattle.std.specs.List.{flat_map}
@@ -7,7 +7,7 @@ use Rattle.std.proofs.lemmas.Bool.{cases_eq, eq-eqb, ne_eqb, eqb-true}
 use Rattle.std.proofs.lemmas.List.{length-map}
 use Rattle.ent_types.specs.TypeSets.{has_type}
 use Rattle.world_model.specs.Row.{Row}
-use Rattle.block_columns.specs.Types.{TypeState, Content, cell_in}
+use Rattle.block_columns.specs.Types.{TypeState, cell_in}
 use Rattle.block_columns.specs.declared.shape.TypeShape.{TypeShape}
 use Rattle.block_columns.proofs.Lists.{length-at_places}
 use Rattle.chunk_block.specs.Pieces.{OfPiece, change_piece}

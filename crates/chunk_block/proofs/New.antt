@@ -1,7 +1,6 @@
 -- A block with no row is sound.
 use Rattle.std.proofs.Common.{ℕ, inl, inr, ◌≡◌, ◌≢◌, ◌<◌, ◌≤◌, ◌+◌, ◌∙◌, ◌||◌, Bool, true, false, cond, sym, ap, refl, List, [], ◌∷◌, ◌++◌, length, map, arith}
-use Rattle.std.specs.Prelude.{◌==◌, nat_le, ◌&&◌}
-use Rattle.std.specs.List.{flat_map}
+use Rattle.std.specs.Prelude.{nat_le}
 use Rattle.std.proofs.lemmas.Bool.{cases_lt, and_parts, leb-true, ne_eqb}
 use Rattle.std.proofs.lemmas.List.{append_assoc, get_or_past}
 use Rattle.ent_types.specs.declared.kinds.Kind.{Kind}
@@ -12,7 +11,7 @@ use Rattle.ent_types.specs.Registries.{type_at, plain_tag, IsLawfulRegistry}
 use Rattle.ent_types.proofs.LawfulTypes.{is_lawful_type-at}
 use Rattle.ent_types.specs.TypeSets.{has_type, IsRisingFrom, IsRisingBelow}
 use Rattle.chunk_block.specs.Pieces.{Place, AreSmall}
-use Rattle.chunk_block.specs.Blocks.{BlockType, type_of, shape_of, new_place, new_place_of, new_places, new_type_of, new_types, AllSuit, place_types, AreDistinct, IsSound, IsWhole}
+use Rattle.chunk_block.specs.Blocks.{BlockType, type_of, shape_of, new_place, new_places, new_types, AllSuit, place_types, AreDistinct, IsSound, IsWhole}
 
 -- an element of a buffer type has 1 to 8 values
 pub buffer_width : (t : TypeInfo) → is_lawful_type t ≡ true → is_buffer t.kind ≡ true → (1 ≤ length t.fields) × (length t.fields ≤ 8)

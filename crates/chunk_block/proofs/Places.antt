@@ -1,5 +1,5 @@
 -- One type of a block, as its places have it and as its rows show it.
-use Rattle.std.proofs.Common.{ℕ, inl, inr, pos, ◌≡◌, ◌≢◌, ◌<◌, ◌≤◌, ◌∙◌, Bool, true, false, cond, nat_eq, sym, ap, refl, List, [], ◌∷◌, length, get_or, map, arith, subst, Option, Some, None}
+use Rattle.std.proofs.Common.{ℕ, inl, inr, pos, ◌≡◌, ◌<◌, ◌≤◌, ◌∙◌, Bool, true, false, cond, nat_eq, sym, ap, refl, List, [], ◌∷◌, length, map, subst, Option, Some, None}
 use Rattle.std.specs.Prelude.{is_none}
 use Rattle.std.specs.Bool.{MatchBool}
 use Rattle.std.proofs.lemmas.Bool.{cases_lt}
@@ -7,8 +7,7 @@ use Rattle.std.proofs.lemmas.List.{ext_get_or, length-map, get_or-map, get_or_pa
 use Rattle.ent_types.specs.declared.entity.Entity.{Entity}
 use Rattle.ent_types.specs.declared.value.Value.{Value}
 use Rattle.ent_types.specs.declared.value.Value.TheVariants.{Int}
-use Rattle.ent_types.specs.declared.kinds.FieldKind.{FieldKind}
-use Rattle.world_model.specs.Row.{Row, Cell}
+use Rattle.world_model.specs.Row.{Row}
 use Rattle.buffer_store.specs.Buffers.{Buffer, buffer}
 use Rattle.block_columns.specs.Places.{tabulated}
 use Rattle.block_columns.specs.Columns.{value_at}
@@ -16,7 +15,7 @@ use Rattle.block_columns.specs.Types.{TypeState, Content, blank_cell, cell_in, k
 use Rattle.block_columns.specs.declared.shape.TypeShape.{TypeShape}
 use Rattle.block_columns.proofs.Lists.{length-tabulated, get_or-tabulated}
 use Rattle.chunk_block.specs.Pieces.{Place, IsHeld, OfPlace, IsIfHeld}
-use Rattle.chunk_block.specs.Blocks.{BlockType, type_of, content_at, place_cell, held_content, row_at, row_in, no_row, field_at, is_off, OfType, AllSuit, Suits, kind_at}
+use Rattle.chunk_block.specs.Blocks.{type_of, content_at, place_cell, held_content, row_at, row_in, no_row, field_at, is_off, OfType, AllSuit, Suits, kind_at}
 
 -- what is there also has what follows from it
 pub of_place : (t : ℕ) (P Q : TypeState → Type 0) (ps : List Place) → ((y : TypeState) → P y → Q y) → OfPlace t P ps → OfPlace t Q ps

@@ -1,13 +1,13 @@
 -- The rows of a block after one more was added.
-use Rattle.std.proofs.Common.{ℕ, ◌≡◌, ◌<◌, ◌≤◌, ◌+◌, ◌∙◌, Bool, true, false, cond, sym, ap, refl, List, [], ◌∷◌, ◌++◌, length, get_or, map, arith, subst, Option, Some, None}
+use Rattle.std.proofs.Common.{ℕ, ◌≡◌, ◌<◌, ◌≤◌, ◌+◌, ◌∙◌, Bool, false, sym, ap, refl, List, [], ◌∷◌, ◌++◌, length, get_or, map, arith, subst, Option, Some, None}
 use Rattle.std.specs.Prelude.{option_map, is_none}
-use Rattle.std.proofs.lemmas.List.{length_push, length-append, get_or_append_left, get_or_push}
+use Rattle.std.proofs.lemmas.List.{length_push, get_or_append_left, get_or_push}
 use Rattle.ent_types.specs.declared.entity.Entity.{Entity}
 use Rattle.ent_types.specs.Fitting.{null_entity}
 use Rattle.enable_bits.specs.Masks.{has}
-use Rattle.world_model.specs.Row.{Row, Cell}
+use Rattle.world_model.specs.Row.{Cell}
 use Rattle.block_columns.specs.Places.{tabulated}
-use Rattle.block_columns.specs.Types.{TypeState, Content, blank_cell, cell_in, new_cell}
+use Rattle.block_columns.specs.Types.{TypeState, Content, blank_cell, new_cell}
 use Rattle.block_columns.specs.declared.shape.TypeShape.{TypeShape}
 use Rattle.block_columns.proofs.Lists.{pushed_table}
 use Rattle.chunk_block.specs.Pieces.{Place, IsIfHeld, Every, HasRoom, pushed, pushed_place, AreSmall}

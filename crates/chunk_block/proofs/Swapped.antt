@@ -1,11 +1,11 @@
 -- The rows of a block after one was removed.
-use Rattle.std.proofs.Common.{ℕ, ◌≡◌, ◌<◌, ◌≤◌, ◌-◌, ◌∙◌, Bool, true, false, sym, ap, refl, List, [], ◌∷◌, length, get_or, map, arith, subst, Option, Some, None}
-use Rattle.std.specs.Prelude.{option_map, is_none}
+use Rattle.std.proofs.Common.{ℕ, ◌≡◌, ◌<◌, ◌≤◌, ◌-◌, ◌∙◌, Bool, sym, ap, refl, List, [], ◌∷◌, length, get_or, map, arith, subst, Option, Some, None}
+use Rattle.std.specs.Prelude.{option_map}
 use Rattle.std.specs.List.{swap_remove}
 use Rattle.ent_types.specs.declared.entity.Entity.{Entity}
 use Rattle.ent_types.specs.Fitting.{null_entity}
 use Rattle.enable_bits.specs.Masks.{has, swapped_back}
-use Rattle.world_model.specs.Row.{Row, Cell}
+use Rattle.world_model.specs.Row.{Cell}
 use Rattle.block_columns.specs.Places.{tabulated}
 use Rattle.block_columns.specs.Types.{TypeState, Content, blank_cell, cell_in}
 use Rattle.block_columns.specs.declared.shape.TypeShape.{TypeShape}

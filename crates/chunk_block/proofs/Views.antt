@@ -1,10 +1,10 @@
 -- What contracts see of an open block.
-use Rattle.std.proofs.Common.{ℕ, ℤ, zero, suc, ◌≡◌, ◌<◌, ◌+◌, ◌∙◌, sym, ap, refl, subst, List, [], ◌∷◌, length, map, get_or}
+use Rattle.std.proofs.Common.{ℕ, ℤ, zero, suc, ◌≡◌, ◌<◌, ◌+◌, ◌∙◌, sym, ap, refl, subst, List, [], ◌∷◌, length, map}
 use Rattle.std.proofs.Math.ListN.{set}
 use Rattle.std.proofs.lemmas.List.{ext_get_or, length-map, get_or-map}
 use Rattle.ent_types.specs.declared.entity.Entity.{Entity}
 use Rattle.ent_types.specs.Fitting.{null_entity}
-use Rattle.world_model.specs.Row.{Row, Cell}
+use Rattle.world_model.specs.Row.{Row}
 use Rattle.world_model.specs.World.{Mark}
 use Rattle.block_columns.specs.Places.{tabulated, at_places}
 use Rattle.block_columns.specs.Types.{TypeState, Content, blank_cell, cell_in, kind_in, one_row, all_rows, with_number_in}

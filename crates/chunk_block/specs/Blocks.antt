@@ -1,5 +1,5 @@
 -- What contracts see of a block and of a loan: rows of cells, and what is lent by type.
-use Rattle.std.specs.Prelude.{ℕ, ℤ, pos, ◌+◌, ◌<◌, ◌≤◌, ◌≡◌, Bool, true, false, not, List, [], ◌∷◌, ◌++◌, Option, Some, None, is_none, nat_eq, if◌then◌else◌, map, fold, length, slice_index_or, slice_set}
+use Rattle.std.specs.Prelude.{ℕ, ◌≤◌, ◌≡◌, Bool, true, false, List, [], ◌∷◌, Option, Some, None, is_none, nat_eq, if◌then◌else◌, map, length, slice_index_or}
 use Rattle.std.specs.Bool.{MatchBool}
 use Rattle.std.specs.List.{flat_map}
 use Rattle.ent_types.specs.declared.entity.Entity.{Entity}
@@ -14,7 +14,7 @@ use Rattle.ent_types.specs.TypeSets.{has_type}
 use Rattle.enable_bits.specs.Masks.{has}
 use Rattle.world_model.specs.Row.{Row, Cell}
 use Rattle.world_model.specs.World.{Mark}
-use Rattle.block_columns.specs.Places.{tabulated, at_places}
+use Rattle.block_columns.specs.Places.{at_places}
 use Rattle.block_columns.specs.Columns.{value_at}
 use Rattle.block_columns.specs.Types.{TypeState, Content, blank_cell, cell_in, new_cell, kind_in}
 use Rattle.block_columns.specs.declared.shape.TypeShape.{TypeShape}

@@ -1,11 +1,11 @@
 -- What a block keeps of each of its types, and lists of what is lent.
-use Rattle.std.specs.Prelude.{ℕ, ℤ, ◌≡◌, ◌<◌, Bool, true, false, List, [], ◌∷◌, Option, Some, None, ◌++◌, Box, option_map, nat_eq, if◌then◌else◌, map, fold, length}
+use Rattle.std.specs.Prelude.{ℕ, ℤ, ◌≡◌, ◌<◌, Bool, false, List, [], ◌∷◌, Option, Some, None, ◌++◌, Box, option_map, nat_eq, if◌then◌else◌, map, fold, length}
 use Rattle.std.specs.Bool.{MatchBool}
 use Rattle.std.specs.List.{swap_remove}
 use Rattle.std.specs.declared.alloc.Global.{Global}
 use Rattle.ent_types.specs.TypeSets.{has_type}
 use Rattle.block_columns.specs.declared.shape.TypeShape.{TypeShape}
-use Rattle.block_columns.specs.Types.{TypeState, Content, blank_cell, cell_in, new_cell, kind_in, with_number_in, all_rows}
+use Rattle.block_columns.specs.Types.{TypeState, blank_cell, cell_in, new_cell, kind_in, with_number_in, all_rows}
 use Rattle.chunk_block.specs.declared.piece.Piece.{Piece, out-Piece}
 use Rattle.chunk_block.specs.declared.piece.Piece.TheOpen.{Piece-F}
 use Rattle.chunk_block.specs.declared.piece.Piece.TheFolds.{fold-Piece}
@@ -22,8 +22,12 @@ abbrev pub after : Option (Box (List TypeState) Global) → List TypeState
 after None = []
 after (Some b) = b.value
 
+abbrev pub lent_from : Option TypeState → List TypeState
+lent_from None = []
+lent_from (Some x) = x ∷ []
+
 abbrev pub chain_step : Piece-F (List TypeState) → List TypeState
-chain_step p = p.rows ∷ after p.next
+chain_step p = lent_from p.rows ++ after p.next
 
 abbrev pub pieces_from : Piece → List TypeState
 pieces_from = fold-Piece (List TypeState) chain_step
@@ -32,11 +36,11 @@ abbrev pub pieces_in : Option (Box Piece Global) → List TypeState
 pieces_in None = []
 pieces_in (Some b) = pieces_from b.value
 
-abbrev pub rows_of : Piece → TypeState
+abbrev pub rows_of : Piece → Option TypeState
 rows_of p = (out-Piece p).rows
 
 abbrev pub place_of : Slot → Place
-place_of s = record { shape = s.shape; held = option_map (λ b. rows_of b.value) s.piece }
+place_of s = record { shape = s.shape; held = option_map (λ h. h.rows) s.held }
 
 abbrev pub places_of : List Slot → List Place
 places_of slots = map place_of slots
@@ -150,10 +154,6 @@ AreSmall (p ∷ ps) = (p.shape.ty.0 < 256) × AreSmall ps
 -- the place after these types were lent
 abbrev pub kept : List ℕ → Place → Place
 kept types p = if has_type types p.shape.ty.0 then record p { held = None } else p
-
-abbrev pub lent_from : Option TypeState → List TypeState
-lent_from None = []
-lent_from (Some x) = x ∷ []
 
 abbrev pub lent : List ℕ → Place → List TypeState
 lent types p = if has_type types p.shape.ty.0 then lent_from p.held else []

@@ -10,7 +10,7 @@ ghost use Rattle.chunk_block.specs.Pieces.{place_of, places_of};
 ghost use Rattle.chunk_block.specs.Blocks.{shape_of, new_place, new_places};
 
 use crate::piece::Piece;
-use crate::slot::Slot;
+use crate::slot::{Held, Slot};
 use block_columns::{TypeRows, TypeShape};
 use ent_types::{FieldInfo, FieldKind, Memory, Registry, Sequence, TypeId, TypeSet};
 use std::alloc::Global;
@@ -52,10 +52,16 @@ fn new_slot(alloc: Global, registry: &Registry, ty: TypeId, capacity: u32) -> Re
     let shape = shape_of(alloc, registry, ty)?;
     let rows = TypeRows::new(alloc, shape, capacity)?;
     let own = shape_of(alloc, registry, ty)?;
-    let piece = Box::new(alloc, Piece { rows, next: None })?;
+    let shell = Box::new(
+        alloc,
+        Piece {
+            rows: None,
+            next: None,
+        },
+    )?;
     Ok(Slot {
         shape: own,
-        piece: Some(piece),
+        held: Some(Held { rows, shell }),
     })
 }
 

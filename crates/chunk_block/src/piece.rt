@@ -1,33 +1,34 @@
-//! Boxes with what a block keeps of one type each. A box may hold the next one of its list, so that lending relinks boxes
-//! and takes no memory.
+//! Boxes with the rows that a block lent, one for each type. A box may hold the next one of its list, so that lending
+//! relinks boxes and takes no memory.
 ghost use Rattle.std.specs.Prelude.{◌≡◌, ◌<◌, ◌∷◌, not, length, true, ⊤, MatchOption};
 ghost use Rattle.buffer_store.specs.Buffers.{buffer};
 ghost use Rattle.block_columns.specs.Types.{cell_in, with_value, with_off, with_values, with_number_in, with_reference_in, with_enabled_in, one_row, all_rows, TakesValue, TakesNumbers, TakesReferences, TakesElements, IsEnableable};
-ghost use Rattle.chunk_block.specs.Pieces.{pieces_in, rows_of, OfPiece, LacksPiece, IfPiece, HasTheRow, piece_off, InRow, OfRows, OfShape, stored_numbers, change_piece};
+ghost use Rattle.chunk_block.specs.Pieces.{pieces_in, OfPiece, LacksPiece, IfPiece, HasTheRow, piece_off, InRow, OfRows, OfShape, stored_numbers, change_piece};
 
 use block_columns::TypeRows;
 use buffer_store::Elements;
 use enable_bits::Mask;
 use ent_types::{Entity, TypeId, Value};
 
-/// What a block keeps of one type, and the rest of the list that it is in.
+/// The rows of one type, and the rest of the list that they are in. It is empty while its type isn't lent.
 #[derive(Drop)]
 pub struct Piece {
-    /// The rows of the type.
-    pub rows: TypeRows,
-    /// The next pieces, while this one is lent.
+    /// The rows of the type, while they are lent.
+    pub rows: Option<TypeRows>,
+    /// The next pieces, while the rows are lent.
     pub next: Option<Box<Piece>>,
 }
 
 /// A list of pieces.
 pub type Chain = Option<Box<Piece>>;
 
-/// Returns the list with a piece before it.
-pub(crate) fn put_first(mut piece: Box<Piece>, list: Chain) -> Chain
-    ensures { pieces_in result ≡ rows_of piece.value ∷ pieces_in list }
+/// Returns the list with rows before it, in a box.
+pub(crate) fn put_first(rows: TypeRows, mut shell: Box<Piece>, list: Chain) -> Chain
+    ensures { pieces_in result ≡ rows ∷ pieces_in list }
 {
-    piece.next = list;
-    Some(piece)
+    shell.rows = Some(rows);
+    shell.next = list;
+    Some(shell)
 }
 
 /// Returns the rows of a type.
@@ -37,13 +38,16 @@ pub(crate) fn find_rows(list: &Chain, ty: TypeId) -> &TypeRows
 {
     match list {
         None => unreachable!(),
-        Some(piece) => {
-            if piece.rows.ty() == ty {
-                &piece.rows
-            } else {
-                find_rows(&piece.next, ty)
+        Some(piece) => match &piece.rows {
+            None => find_rows(&piece.next, ty),
+            Some(held) => {
+                if held.ty() == ty {
+                    held
+                } else {
+                    find_rows(&piece.next, ty)
+                }
             }
-        }
+        },
     }
 }
 
@@ -53,13 +57,16 @@ pub(crate) fn look_up(list: &Chain, ty: TypeId) -> Option<&TypeRows>
 {
     match list {
         None => None,
-        Some(piece) => {
-            if piece.rows.ty() == ty {
-                Some(&piece.rows)
-            } else {
-                look_up(&piece.next, ty)
+        Some(piece) => match &piece.rows {
+            None => look_up(&piece.next, ty),
+            Some(held) => {
+                if held.ty() == ty {
+                    Some(held)
+                } else {
+                    look_up(&piece.next, ty)
+                }
             }
-        }
+        },
     }
 }
 
@@ -70,13 +77,16 @@ pub(crate) fn is_enabled(list: &Chain, ty: TypeId, row: u32) -> bool
 {
     match list {
         None => true,
-        Some(piece) => {
-            if piece.rows.ty() == ty {
-                piece.rows.enabled(row)
-            } else {
-                is_enabled(&piece.next, ty, row)
+        Some(piece) => match &piece.rows {
+            None => is_enabled(&piece.next, ty, row),
+            Some(held) => {
+                if held.ty() == ty {
+                    held.enabled(row)
+                } else {
+                    is_enabled(&piece.next, ty, row)
+                }
             }
-        }
+        },
     }
 }
 
@@ -88,10 +98,16 @@ pub(crate) fn set_value(list: &mut Chain, ty: TypeId, row: u32, field: u8, value
     match list {
         None => unreachable!(),
         Some(piece) => {
-            if piece.rows.ty() == ty {
-                piece.rows.set(row, field, value);
-            } else {
-                set_value(&mut piece.next, ty, row, field, value);
+            let Piece { rows: lent, next } = &mut **piece;
+            match lent {
+                None => set_value(next, ty, row, field, value),
+                Some(held) => {
+                    if held.ty() == ty {
+                        held.set(row, field, value);
+                    } else {
+                        set_value(next, ty, row, field, value);
+                    }
+                }
             }
         }
     }
@@ -105,10 +121,16 @@ pub(crate) fn set_enabled(list: &mut Chain, ty: TypeId, row: u32, on: bool)
     match list {
         None => unreachable!(),
         Some(piece) => {
-            if piece.rows.ty() == ty {
-                piece.rows.set_enabled(row, on);
-            } else {
-                set_enabled(&mut piece.next, ty, row, on);
+            let Piece { rows: lent, next } = &mut **piece;
+            match lent {
+                None => set_enabled(next, ty, row, on),
+                Some(held) => {
+                    if held.ty() == ty {
+                        held.set_enabled(row, on);
+                    } else {
+                        set_enabled(next, ty, row, on);
+                    }
+                }
             }
         }
     }
@@ -122,10 +144,16 @@ pub(crate) fn store(list: &mut Chain, ty: TypeId, field: u8, numbers: &[i64], ro
     match list {
         None => unreachable!(),
         Some(piece) => {
-            if piece.rows.ty() == ty {
-                piece.rows.store(field, numbers, rows);
-            } else {
-                store(&mut piece.next, ty, field, numbers, rows);
+            let Piece { rows: lent, next } = &mut **piece;
+            match lent {
+                None => store(next, ty, field, numbers, rows),
+                Some(held) => {
+                    if held.ty() == ty {
+                        held.store(field, numbers, rows);
+                    } else {
+                        store(next, ty, field, numbers, rows);
+                    }
+                }
             }
         }
     }
@@ -145,10 +173,16 @@ pub(crate) fn store_references(
     match list {
         None => unreachable!(),
         Some(piece) => {
-            if piece.rows.ty() == ty {
-                piece.rows.store_references(field, references, rows);
-            } else {
-                store_references(&mut piece.next, ty, field, references, rows);
+            let Piece { rows: lent, next } = &mut **piece;
+            match lent {
+                None => store_references(next, ty, field, references, rows),
+                Some(held) => {
+                    if held.ty() == ty {
+                        held.store_references(field, references, rows);
+                    } else {
+                        store_references(next, ty, field, references, rows);
+                    }
+                }
             }
         }
     }
@@ -162,10 +196,16 @@ pub(crate) fn store_enabled(list: &mut Chain, ty: TypeId, on: &Mask, rows: &Mask
     match list {
         None => unreachable!(),
         Some(piece) => {
-            if piece.rows.ty() == ty {
-                piece.rows.store_enabled(on, rows);
-            } else {
-                store_enabled(&mut piece.next, ty, on, rows);
+            let Piece { rows: lent, next } = &mut **piece;
+            match lent {
+                None => store_enabled(next, ty, on, rows),
+                Some(held) => {
+                    if held.ty() == ty {
+                        held.store_enabled(on, rows);
+                    } else {
+                        store_enabled(next, ty, on, rows);
+                    }
+                }
             }
         }
     }
@@ -185,10 +225,16 @@ pub(crate) fn put_elements(
     match list {
         None => unreachable!(),
         Some(piece) => {
-            if piece.rows.ty() == ty {
-                piece.rows.put_elements(row, new)
-            } else {
-                put_elements(&mut piece.next, ty, row, new)
+            let Piece { rows: lent, next } = &mut **piece;
+            match lent {
+                None => put_elements(next, ty, row, new),
+                Some(held) => {
+                    if held.ty() == ty {
+                        held.put_elements(row, new)
+                    } else {
+                        put_elements(next, ty, row, new)
+                    }
+                }
             }
         }
     }

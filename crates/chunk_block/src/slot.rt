@@ -11,13 +11,23 @@ use buffer_store::Elements;
 use enable_bits::Mask;
 use ent_types::{Entity, TypeId, TypeSet, Value};
 
-/// Where a block keeps what it has of one type that isn't shared.
+/// The rows of a type, and the empty box that they are lent in.
+#[derive(Drop)]
+pub struct Held {
+    /// The rows of the type.
+    pub rows: TypeRows,
+    /// The box. It is made with the rows, so that lending them takes no memory.
+    pub shell: Box<Piece>,
+}
+
+/// Where a block keeps what it has of one type that isn't shared. The rows lie in the slot, so that a column is found
+/// without a further read of memory.
 #[derive(Drop)]
 pub struct Slot {
     /// The type.
     pub shape: TypeShape,
     /// The rows of the type, unless they are lent.
-    pub piece: Option<Box<Piece>>,
+    pub held: Option<Held>,
 }
 
 /// Adds a row to each type.
@@ -28,9 +38,9 @@ fn push_in(slots: &mut [Slot])
     match slots.split_first_mut() {
         None => {}
         Some((slot, rest)) => {
-            match &mut slot.piece {
+            match &mut slot.held {
                 None => {}
-                Some(piece) => piece.rows.push(),
+                Some(held) => held.rows.push(),
             }
             push_in(rest);
         }
@@ -53,9 +63,9 @@ fn remove_in(slots: &mut [Slot], row: u32)
     match slots.split_first_mut() {
         None => {}
         Some((slot, rest)) => {
-            match &mut slot.piece {
+            match &mut slot.held {
                 None => {}
-                Some(piece) => piece.rows.swap_remove(row),
+                Some(held) => held.rows.swap_remove(row),
             }
             remove_in(rest, row);
         }
@@ -70,18 +80,21 @@ pub(crate) fn remove_all(slots: &mut Vec<Slot>, row: u32)
     remove_in(slots, row);
 }
 
-/// Lends the piece of a slot, if it is there, before a list of others.
+/// Lends the rows of a slot, if they are there, before a list of others.
 fn lend_slot(slot: &mut Slot, list: Chain) -> Chain
     ensures slot { place_of slot.new ≡ record (place_of slot.old) { held = None } }
     ensures list { pieces_in result ≡ lent_from (place_of slot.old).held ++ pieces_in list }
 {
-    match slot.piece.take() {
+    match slot.held.take() {
         None => list,
-        Some(piece) => put_first(piece, list),
+        Some(held) => {
+            let Held { rows, shell } = held;
+            put_first(rows, shell, list)
+        }
     }
 }
 
-/// Lends the pieces of some types.
+/// Lends the rows of some types.
 fn lend_in(slots: &mut [Slot], types: &TypeSet) -> Chain
     requires { AreSmall (places_of slots.old) }
     ensures slots { places_of slots.new ≡ map (kept types.now) (places_of slots.old) }
@@ -100,7 +113,7 @@ fn lend_in(slots: &mut [Slot], types: &TypeSet) -> Chain
     }
 }
 
-/// Lends the pieces of some types.
+/// Lends the rows of some types.
 pub(crate) fn lend_all(slots: &mut Vec<Slot>, types: &TypeSet) -> Chain
     requires { AreSmall (places_of slots.old.items) }
     ensures slots { places_of slots.new.items ≡ map (kept types.now) (places_of slots.old.items) }
@@ -109,19 +122,29 @@ pub(crate) fn lend_all(slots: &mut Vec<Slot>, types: &TypeSet) -> Chain
     lend_in(slots, types)
 }
 
-/// Puts a piece into the slot of its type.
-fn put_piece(slots: &mut [Slot], piece: Box<Piece>)
-    ensures { places_of slots.new ≡ put (places_of slots.old) (rows_of piece.value) }
+/// Puts rows into the slot of their type, with the box that they were lent in.
+fn put_rows(slots: &mut [Slot], rows: TypeRows, shell: Box<Piece>)
+    ensures { places_of slots.new ≡ put (places_of slots.old) rows }
 {
     match slots.split_first_mut() {
         None => {}
         Some((slot, rest)) => {
-            if slot.shape.ty == piece.rows.ty() {
-                slot.piece = Some(piece);
+            if slot.shape.ty == rows.ty() {
+                slot.held = Some(Held { rows, shell });
             } else {
-                put_piece(rest, piece);
+                put_rows(rest, rows, shell);
             }
         }
+    }
+}
+
+/// Puts the rows of a box into the slot of their type.
+fn put_piece(slots: &mut [Slot], mut piece: Box<Piece>)
+    ensures { places_of slots.new ≡ put_all (places_of slots.old) (lent_from (rows_of piece.value)) }
+{
+    match piece.rows.take() {
+        None => {}
+        Some(rows) => put_rows(slots, rows, piece),
     }
 }
 
@@ -151,9 +174,9 @@ fn find_in(slots: &[Slot], ty: TypeId) -> &TypeRows
         None => unreachable!(),
         Some((slot, rest)) => {
             if slot.shape.ty == ty {
-                match &slot.piece {
+                match &slot.held {
                     None => unreachable!(),
-                    Some(piece) => &piece.rows,
+                    Some(held) => &held.rows,
                 }
             } else {
                 find_in(rest, ty)
@@ -178,9 +201,9 @@ fn look_in(slots: &[Slot], ty: TypeId) -> Option<&TypeRows>
         None => None,
         Some((slot, rest)) => {
             if slot.shape.ty == ty {
-                match &slot.piece {
+                match &slot.held {
                     None => None,
-                    Some(piece) => Some(&piece.rows),
+                    Some(held) => Some(&held.rows),
                 }
             } else {
                 look_in(rest, ty)
@@ -205,9 +228,9 @@ fn is_enabled_in(slots: &[Slot], ty: TypeId, row: u32) -> bool
         None => true,
         Some((slot, rest)) => {
             if slot.shape.ty == ty {
-                match &slot.piece {
+                match &slot.held {
                     None => true,
-                    Some(piece) => piece.rows.enabled(row),
+                    Some(held) => held.rows.enabled(row),
                 }
             } else {
                 is_enabled_in(rest, ty, row)
@@ -233,9 +256,9 @@ fn set_value_in(slots: &mut [Slot], ty: TypeId, row: u32, field: u8, value: Valu
         None => unreachable!(),
         Some((slot, rest)) => {
             if slot.shape.ty == ty {
-                match &mut slot.piece {
+                match &mut slot.held {
                     None => unreachable!(),
-                    Some(piece) => piece.rows.set(row, field, value),
+                    Some(held) => held.rows.set(row, field, value),
                 }
             } else {
                 set_value_in(rest, ty, row, field, value);
@@ -261,9 +284,9 @@ fn set_enabled_in(slots: &mut [Slot], ty: TypeId, row: u32, on: bool)
         None => unreachable!(),
         Some((slot, rest)) => {
             if slot.shape.ty == ty {
-                match &mut slot.piece {
+                match &mut slot.held {
                     None => unreachable!(),
-                    Some(piece) => piece.rows.set_enabled(row, on),
+                    Some(held) => held.rows.set_enabled(row, on),
                 }
             } else {
                 set_enabled_in(rest, ty, row, on);
@@ -289,9 +312,9 @@ fn store_in(slots: &mut [Slot], ty: TypeId, field: u8, numbers: &[i64], rows: &M
         None => unreachable!(),
         Some((slot, rest)) => {
             if slot.shape.ty == ty {
-                match &mut slot.piece {
+                match &mut slot.held {
                     None => unreachable!(),
-                    Some(piece) => piece.rows.store(field, numbers, rows),
+                    Some(held) => held.rows.store(field, numbers, rows),
                 }
             } else {
                 store_in(rest, ty, field, numbers, rows);
@@ -323,9 +346,9 @@ fn store_references_in(
         None => unreachable!(),
         Some((slot, rest)) => {
             if slot.shape.ty == ty {
-                match &mut slot.piece {
+                match &mut slot.held {
                     None => unreachable!(),
-                    Some(piece) => piece.rows.store_references(field, references, rows),
+                    Some(held) => held.rows.store_references(field, references, rows),
                 }
             } else {
                 store_references_in(rest, ty, field, references, rows);
@@ -357,9 +380,9 @@ fn store_enabled_in(slots: &mut [Slot], ty: TypeId, on: &Mask, rows: &Mask)
         None => unreachable!(),
         Some((slot, rest)) => {
             if slot.shape.ty == ty {
-                match &mut slot.piece {
+                match &mut slot.held {
                     None => unreachable!(),
-                    Some(piece) => piece.rows.store_enabled(on, rows),
+                    Some(held) => held.rows.store_enabled(on, rows),
                 }
             } else {
                 store_enabled_in(rest, ty, on, rows);
@@ -391,9 +414,9 @@ fn put_elements_in(
         None => unreachable!(),
         Some((slot, rest)) => {
             if slot.shape.ty == ty {
-                match &mut slot.piece {
+                match &mut slot.held {
                     None => unreachable!(),
-                    Some(piece) => piece.rows.put_elements(row, new),
+                    Some(held) => held.rows.put_elements(row, new),
                 }
             } else {
                 put_elements_in(rest, ty, row, new)

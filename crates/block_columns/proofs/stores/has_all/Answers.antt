@@ -1,4 +1,4 @@
-use Rattle.std.proofs.Common.{◌≡◌, ◌∙◌, ap, not}
+use Rattle.std.proofs.Common.{◌∙◌, ap, not}
 use Rattle.block_columns.proofs.Switches.{all_there}
 use Rattle.block_columns.proofs.stores.has_all.Goals as goal
 

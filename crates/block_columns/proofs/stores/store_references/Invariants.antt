@@ -1,10 +1,7 @@
 use Rattle.std.proofs.Common.{ℕ, ◌≡◌, ◌<◌, ◌≤◌}
 use Rattle.std.specs.Prelude.{if◌then◌else◌}
-use Rattle.std.specs.Int.{int_wrap, w32}
-use Rattle.ent_types.specs.Fitting.{fit_number}
-use Rattle.ent_types.specs.declared.kinds.FieldKind.TheVariants.{I64}
 use Rattle.enable_bits.specs.Masks.{has}
-use Rattle.block_columns.specs.Columns.{number_at, reference_at}
+use Rattle.block_columns.specs.Columns.{reference_at}
 use Rattle.block_columns.proofs.stores.store_references.Given as goal
 
 -- what is done, and what isn't yet

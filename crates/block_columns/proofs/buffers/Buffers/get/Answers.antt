@@ -1,4 +1,4 @@
-use Rattle.std.proofs.Common.{◌≡◌, ◌<◌, ◌∙◌, ap, sym, subst, length, get_or, []}
+use Rattle.std.proofs.Common.{◌<◌, ◌∙◌, ap, sym, subst, length, get_or, []}
 use Rattle.std.proofs.lemmas.List.{length-map}
 use Rattle.ent_types.specs.declared.value.Value.{Value}
 use Rattle.buffer_store.specs.Buffers.{Buffer, buffer}

@@ -1,4 +1,4 @@
-use Rattle.std.proofs.Common.{◌≡◌, ◌≤◌, ap, arith}
+use Rattle.std.proofs.Common.{◌≤◌, ap, arith}
 use Rattle.ent_types.specs.declared.value.Value.{Value}
 use Rattle.buffer_store.specs.Buffers.{Buffer}
 use Rattle.block_columns.proofs.Widths.{pushed_width}

@@ -1,4 +1,4 @@
-use Rattle.std.proofs.Common.{◌≡◌, ◌≤◌, ◌<◌, ◌∙◌, ap, sym, subst, arith, length, map, get_or, [], List}
+use Rattle.std.proofs.Common.{◌<◌, ◌∙◌, ap, sym, subst, length, map, get_or, [], List}
 use Rattle.std.proofs.Math.ListN.{set}
 use Rattle.std.proofs.lemmas.List.{length-map, map-set}
 use Rattle.ent_types.specs.declared.value.Value.{Value}

@@ -1,4 +1,4 @@
-use Rattle.std.proofs.Common.{◌≡◌, ◌≤◌, ◌<◌, ◌∙◌, ap, sym, subst, arith, length, map, [], List}
+use Rattle.std.proofs.Common.{◌<◌, ◌∙◌, ap, sym, subst, length, map, [], List}
 use Rattle.std.specs.List.{swap_remove}
 use Rattle.std.proofs.lemmas.List.{length-map}
 use Rattle.ent_types.specs.declared.value.Value.{Value}

@@ -1,8 +1,7 @@
-use Rattle.std.proofs.Common.{ℤ, ◌≡◌, ◌∙◌, ap, map, w32, w64, rules}
+use Rattle.std.proofs.Common.{◌∙◌, ap, map, w32, w64, rules}
 use Rattle.std.proofs.Math.ListN.{set}
 use Rattle.std.proofs.lemmas.Int.{to_z-of_z}
 use Rattle.std.proofs.lemmas.List.{map-set}
-use Rattle.ent_types.specs.declared.value.Value.{Value}
 use Rattle.ent_types.specs.declared.value.Value.TheVariants.{Int, Ref}
 use Rattle.block_columns.proofs.cells.Cells.set.Goals as goal
 

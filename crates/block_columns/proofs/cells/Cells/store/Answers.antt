@@ -1,4 +1,3 @@
-use Rattle.std.proofs.Common.{◌≡◌, ◌∙◌, sym, ap, length, map}
 use Rattle.ent_types.specs.declared.kinds.FieldKind.TheVariants.{I32, I64}
 use Rattle.block_columns.proofs.Stored.{numbers_stored}
 use Rattle.block_columns.proofs.cells.Cells.store.Goals as goal

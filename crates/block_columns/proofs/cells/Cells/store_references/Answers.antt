@@ -1,4 +1,3 @@
-use Rattle.std.proofs.Common.{◌≡◌}
 use Rattle.block_columns.proofs.Stored.{references_stored}
 use Rattle.block_columns.proofs.cells.Cells.store_references.Goals as goal
 

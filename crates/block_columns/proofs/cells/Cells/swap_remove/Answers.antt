@@ -1,6 +1,5 @@
 use Rattle.std.proofs.Common.{◌<◌, ◌∙◌, ap, length, map}
 use Rattle.std.proofs.lemmas.List.{length-map}
-use Rattle.ent_types.specs.declared.value.Value.{Value}
 use Rattle.ent_types.specs.declared.value.Value.TheVariants.{Int, Ref}
 use Rattle.block_columns.proofs.Lists.{map-swap_remove}
 use Rattle.block_columns.proofs.cells.Cells.swap_remove.Goals as goal

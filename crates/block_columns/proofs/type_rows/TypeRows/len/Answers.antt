@@ -1,4 +1,4 @@
-use Rattle.std.proofs.Common.{◌≤◌, sym, arith}
+use Rattle.std.proofs.Common.{sym, arith}
 use Rattle.block_columns.specs.Fields.{fields_of}
 use Rattle.block_columns.proofs.Seen.{size}
 use Rattle.block_columns.proofs.type_rows.TypeRows.len.Goals as goal

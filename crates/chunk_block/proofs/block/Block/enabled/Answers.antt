@@ -1,4 +1,4 @@
-use Rattle.std.proofs.Common.{◌≡◌, ◌<◌, ◌∙◌, not, sym, ap, subst, length}
+use Rattle.std.proofs.Common.{◌<◌, ◌∙◌, not, sym, ap, subst, length}
 use Rattle.world_model.specs.Row.{Row}
 use Rattle.chunk_block.specs.Pieces.{places_of}
 use Rattle.chunk_block.specs.Blocks.{BlockState, is_off, row_in, marks_of}

@@ -1,8 +1,8 @@
-use Rattle.std.proofs.Common.{ℕ, ◌≡◌, ◌∙◌, sym, ap, subst, length, map, [], List}
+use Rattle.std.proofs.Common.{◌∙◌, sym, ap, subst, length, map, [], List}
 use Rattle.ent_types.specs.declared.entity.Entity.{Entity}
-use Rattle.world_model.specs.World.{Mark, capacity}
+use Rattle.world_model.specs.World.{Mark}
 use Rattle.chunk_block.specs.Pieces.{Place}
-use Rattle.chunk_block.specs.Blocks.{BlockType, new_places, BlockState, IsWhole, new_types, new_mark, new_block, marks_of}
+use Rattle.chunk_block.specs.Blocks.{BlockType, new_places, BlockState, IsWhole, new_mark, new_block, marks_of}
 use Rattle.chunk_block.proofs.Views.{seen}
 use Rattle.chunk_block.proofs.New.{sound_new, types_new, whole_new}
 use Rattle.chunk_block.proofs.block.Block.new.Goals as goal

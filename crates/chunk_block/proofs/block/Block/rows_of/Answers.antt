@@ -1,7 +1,5 @@
 use Rattle.std.proofs.Common.{◌≡◌, subst, length, map}
 use Rattle.std.specs.Prelude.{IfSome, MatchOption}
-use Rattle.world_model.specs.Row.{Row}
-use Rattle.block_columns.specs.declared.shape.TypeShape.{TypeShape}
 use Rattle.chunk_block.specs.Pieces.{places_of}
 use Rattle.chunk_block.specs.Blocks.{BlockState, content_at, OfType, Lacks}
 use Rattle.chunk_block.proofs.Known.{found_shape, found_cells}

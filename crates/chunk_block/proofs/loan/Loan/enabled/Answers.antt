@@ -1,4 +1,4 @@
-use Rattle.std.proofs.Common.{◌≡◌, ◌∙◌, not, sym, ap, subst}
+use Rattle.std.proofs.Common.{◌∙◌, not, sym, ap, subst}
 use Rattle.chunk_block.specs.Pieces.{IfPiece, HasTheRow, piece_off}
 use Rattle.chunk_block.specs.Blocks.{LoanState}
 use Rattle.chunk_block.proofs.loan.Loan.enabled.Goals as goal

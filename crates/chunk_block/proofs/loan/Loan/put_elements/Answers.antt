@@ -1,17 +1,10 @@
-use Rattle.std.proofs.Common.{ℕ, ◌≡◌, ◌<◌, ◌∙◌, sym, ap, subst, length, not, map, List}
-use Rattle.std.specs.Prelude.{⊤}
-use Rattle.ent_types.specs.declared.value.Value.{Value}
+use Rattle.std.proofs.Common.{◌≡◌, ◌∙◌, sym, ap, subst, length, List}
 use Rattle.buffer_store.specs.Buffers.{buffer}
-use Rattle.enable_bits.specs.Masks.{has}
-use Rattle.block_columns.specs.Columns.{value_at}
-use Rattle.block_columns.specs.Slices.{slice_values}
-use Rattle.block_columns.specs.Types.{TypeState, Content, cell_in, one_row, all_rows, with_value, with_off, with_values, with_reference_in, with_enabled_in, with_number_in, HasField, TakesValue, TakesNumbers, TakesReferences, TakesElements, IsEnableable, IsBuffer}
-use Rattle.block_columns.specs.declared.shape.TypeShape.{TypeShape}
-use Rattle.chunk_block.specs.Pieces.{OfPiece, InRow, OfRows, OfShape, change_piece, stored_numbers, pieces_in}
-use Rattle.chunk_block.specs.Blocks.{BlockState, LoanState, ArePiecesOf}
-use Rattle.chunk_block.proofs.Changed.{one_row_keeps, all_rows_keeps}
-use Rattle.chunk_block.proofs.Views.{stored_keeps}
-use Rattle.chunk_block.proofs.Loans.{still_pieces, of_piece, found_piece}
+use Rattle.block_columns.specs.Types.{TypeState, cell_in, one_row, with_values, TakesElements}
+use Rattle.chunk_block.specs.Pieces.{OfPiece, InRow, change_piece, pieces_in}
+use Rattle.chunk_block.specs.Blocks.{LoanState, ArePiecesOf}
+use Rattle.chunk_block.proofs.Changed.{one_row_keeps}
+use Rattle.chunk_block.proofs.Loans.{still_pieces}
 use Rattle.chunk_block.proofs.loan.Loan.put_elements.Goals as goal
 
 pub put_elements-requires : goal.put_elements-requires

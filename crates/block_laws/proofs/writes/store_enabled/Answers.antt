@@ -1,0 +1,33 @@
+use Rattle.std.proofs.Common.{ℕ, ◌≡◌, ◌<◌, ◌∙◌, true, not, sym, ap, subst, length, map, List}
+use Rattle.std.specs.List.{flat_map}
+use Rattle.ent_types.specs.TypeSets.{has_type}
+use Rattle.buffer_store.specs.Buffers.{buffer}
+use Rattle.block_columns.specs.Types.{TypeState, cell_in, with_value, with_off, with_values, with_number_in, with_reference_in, with_enabled_in, one_row, all_rows, TakesValue, TakesNumbers, TakesReferences, TakesElements, IsEnableable}
+use Rattle.block_columns.specs.declared.shape.TypeShape.{TypeShape}
+use Rattle.chunk_block.specs.Pieces.{OfPiece, InRow, OfRows, OfShape, stored_numbers, change_piece}
+use Rattle.chunk_block.specs.Blocks.{BlockState, LoanState, OfType, kind_at}
+use Rattle.chunk_block.proofs.Loans.{of_piece, lent_there}
+use Rattle.block_laws.specs.Lending.{after_lending, given_back, lent_pieces}
+use Rattle.block_laws.proofs.Written.{with_row, one_row_back, numbers_back, each_row_back, read_back}
+use Rattle.block_laws.proofs.writes.store_enabled.Goals as goal
+
+pub store_enabled-requires : goal.store_enabled-requires
+store_enabled-requires c =
+    let b = c.args.block.now in
+    let ts = c.args.types.now in
+    subst (λ (l : LoanState). OfPiece c.args.ty.0 (OfShape IsEnableable) l.pieces) (sym c.lend-loan.ensures.loan)
+    (of_piece c.args.ty.0 (λ x. (length b.rows ≡ length x.cells) × IsEnableable x.shape) (OfShape IsEnableable) (lent_pieces ts b) (λ x h. h.1)
+    (lent_there ts b.capacity b.rows c.args.ty.0 IsEnableable b.columns c.requires.among c.requires.there))
+
+pub give_back-requires : goal.give_back-requires
+give_back-requires c = c.store_enabled.ensures.of c.lend-loan.new.self c.lend-loan.ensures.own
+
+pub returns : goal.returns
+returns c =
+    let b = c.args.block.now in
+    let ts = c.args.types.now in
+    let loan = c.store_enabled.new.self in
+    let pieces = ap (λ (l : LoanState). l.pieces) c.store_enabled.ensures.loan ∙ ap (λ (l : LoanState). change_piece c.args.ty.0 (all_rows (with_enabled_in c.args.rows.now c.args.on.now)) l.pieces) c.lend-loan.ensures.loan in
+    c.give_back.ensures.block
+    ∙ (ap (λ (x : BlockState). given_back x loan) c.lend-loan.ensures.block
+    ∙ each_row_back ts b loan c.args.ty.0 (with_enabled_in c.args.rows.now c.args.on.now) IsEnableable c.types.ensures.distinct c.types.ensures.cells c.requires.held c.requires.among c.requires.there pieces)
