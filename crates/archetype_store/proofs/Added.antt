@@ -21,13 +21,13 @@ use Rattle.shared_values.specs.declared.table.Slot.{Slot as Interned}
 use Rattle.archetype_store.specs.declared.numbers.TheConstants.{MOST_NUMBERS}
 use Rattle.archetype_store.specs.declared.slots.Held.{Held}
 use Rattle.archetype_store.specs.Times.{times}
-use Rattle.archetype_store.specs.Holding.{most_holds, Backs, KeepsValues, ids_of, parts_of}
+use Rattle.archetype_store.specs.Holding.{Backs, KeepsValues, ids_of, parts_of}
 use Rattle.world_model.specs.Members.{In}
 use Rattle.archetype_store.specs.declared.store.ArchetypeStore.TheInside.{Inside}
 use Rattle.archetype_store.proofs.Holding.{in-left, in-right, parts-kept-by}
 use Rattle.archetype_store.specs.Slots.{of_slot, slot_at, put_slot, free_at, AreFree, AreOrdered, IsFreeAt, number_if, numbers_of}
-use Rattle.archetype_store.specs.Stores.{types_at, shared_types}
-use Rattle.archetype_store.specs.Inside.{Beside, beside, kept, all_ids, members_at, members_of, IsOfArchetype, IsOrderly, IsConsistent, AreApart, numbered, numbered_at, blocks_in}
+use Rattle.archetype_store.specs.Stores.{AreApart, types_at, shared_types}
+use Rattle.archetype_store.specs.Inside.{Beside, beside, kept, all_ids, members_at, members_of, IsOfArchetype, IsOrderly, IsConsistent, numbered, numbered_at, blocks_in}
 use Rattle.archetype_store.proofs.Times.{times-append}
 use Rattle.archetype_store.proofs.Orders.{some_is, none_some, put-same, put-other, ordered-put, placed-put, numbers-put, ordered-gone, placed-gone, numbers-gone, count-put, count-gone, times-put, times-gone, free-pushed, numbers-lack, below_of}
 use Rattle.std.proofs.lemmas.List.Sums.{sum_by-append}

@@ -5,8 +5,9 @@ use Rattle.ent_types.specs.declared.value.Value.{Value}
 use Rattle.world_model.specs.Members.{In, tally, one_if}
 use Rattle.world_model.specs.Part.{PartOf}
 use Rattle.shared_values.specs.declared.table.Slot.{Slot}
+use Rattle.shared_values.specs.declared.table.TheConstants.{MOST_HOLDS}
 use Rattle.shared_values.specs.Holds.{slot_at, vacant, holds_of, values_of, type_of, IsHeld, IsIdFor, ChangesTo, held_once_more, held_once_less}
-use Rattle.archetype_store.specs.Holding.{most_holds, Backs, KeepsValues, Holds, Releases, ids_of, parts_of, part_of}
+use Rattle.archetype_store.specs.Holding.{Backs, KeepsValues, Holds, Releases, ids_of, parts_of, part_of}
 use Rattle.archetype_store.specs.Times.{times}
 use Rattle.archetype_store.proofs.Times.{times-append}
 use Rattle.archetype_store.specs.declared.shared_parts.SharedPart.{SharedPart}
@@ -33,11 +34,11 @@ pub backs-held : (old new : List Slot) (ids : List ℕ) (id type_id : ℕ) (valu
     → ChangesTo old new id (held_once_more old id type_id values) → Backs new (id ∷ ids)
 backs-held old new ids id type_id values backs changes = record { holds = by }
   where
-    by : (other : ℕ) → min (times other (id ∷ ids)) most_holds ≤ holds_of new other
+    by : (other : ℕ) → min (times other (id ∷ ids)) MOST_HOLDS ≤ holds_of new other
     by other =
         elim (cases_eq other id) [
           | inl same ↦
-              let there : holds_of new other ≡ min (holds_of old id + 1) most_holds = ap (holds_of new) same ∙ ap (λ (s : Slot). s.holds) changes.there in
+              let there : holds_of new other ≡ min (holds_of old id + 1) MOST_HOLDS = ap (holds_of new) same ∙ ap (λ (s : Slot). s.holds) changes.there in
               let more : times other (id ∷ ids) ≡ times id ids + 1 = ap (λ x. times x (id ∷ ids)) same ∙ times-same id ids in
               omega (arith, there, more, backs.holds id)
           | inr apart ↦
@@ -63,22 +64,22 @@ pub values-held : (old new : List Slot) (id type_id : ℕ) (values : List Value)
 values-held old new id type_id values changes = ap (λ (s : Slot). s.key.values) changes.there
 
 -- what a release leaves of a slot
-less : (slot : Slot) (t : ℕ) → min (t + 1) most_holds ≤ slot.holds → (min t most_holds ≤ (held_once_less slot).holds) × (1 ≤ t → (held_once_less slot).key.values ≡ slot.key.values)
+less : (slot : Slot) (t : ℕ) → min (t + 1) MOST_HOLDS ≤ slot.holds → (min t MOST_HOLDS ≤ (held_once_less slot).holds) × (1 ≤ t → (held_once_less slot).key.values ≡ slot.key.values)
 less slot t backs =
-    elim (cases_eq slot.holds most_holds) [
+    elim (cases_eq slot.holds MOST_HOLDS) [
       | inl most ↦
-          let is : held_once_less slot ≡ slot = ap (λ b. cond b slot (cond (nat_eq slot.holds 1) vacant (record slot { holds = slot.holds - 1 }))) (eq-eqb slot.holds most_holds most) in
+          let is : held_once_less slot ≡ slot = ap (λ b. cond b slot (cond (nat_eq slot.holds 1) vacant (record slot { holds = slot.holds - 1 }))) (eq-eqb slot.holds MOST_HOLDS most) in
           (omega (arith, ap (λ (s : Slot). s.holds) is, most), λ _. ap (λ (s : Slot). s.key.values) is)
       | inr fewer ↦
           elim (cases_eq slot.holds 1) [
             | inl one ↦
                 let is : held_once_less slot ≡ vacant =
-                ap (λ b. cond b slot (cond (nat_eq slot.holds 1) vacant (record slot { holds = slot.holds - 1 }))) (ne_eqb slot.holds most_holds fewer)
+                ap (λ b. cond b slot (cond (nat_eq slot.holds 1) vacant (record slot { holds = slot.holds - 1 }))) (ne_eqb slot.holds MOST_HOLDS fewer)
                 ∙ ap (λ b. cond b vacant (record slot { holds = slot.holds - 1 })) (eq-eqb slot.holds 1 one) in
                 (omega (arith, ap (λ (s : Slot). s.holds) is, one, backs), λ some. absurd (omega (arith, one, backs, some)))
             | inr more ↦
                 let is : held_once_less slot ≡ record slot { holds = slot.holds - 1 } =
-                ap (λ b. cond b slot (cond (nat_eq slot.holds 1) vacant (record slot { holds = slot.holds - 1 }))) (ne_eqb slot.holds most_holds fewer)
+                ap (λ b. cond b slot (cond (nat_eq slot.holds 1) vacant (record slot { holds = slot.holds - 1 }))) (ne_eqb slot.holds MOST_HOLDS fewer)
                 ∙ ap (λ b. cond b vacant (record slot { holds = slot.holds - 1 })) (ne_eqb slot.holds 1 more) in
                 (omega (arith, ap (λ (s : Slot). s.holds) is, backs), λ _. ap (λ (s : Slot). s.key.values) is)
           ]
@@ -88,12 +89,12 @@ less slot t backs =
 pub backs-released : (old new : List Slot) (ids : List ℕ) (id : ℕ) → Backs old (id ∷ ids) → ChangesTo old new id (held_once_less (slot_at old id)) → Backs new ids
 backs-released old new ids id backs changes = record { holds = by }
   where
-    by : (other : ℕ) → min (times other ids) most_holds ≤ holds_of new other
+    by : (other : ℕ) → min (times other ids) MOST_HOLDS ≤ holds_of new other
     by other =
         elim (cases_eq other id) [
           | inl same ↦
               let there : holds_of new other ≡ (held_once_less (slot_at old id)).holds = ap (holds_of new) same ∙ ap (λ (s : Slot). s.holds) changes.there in
-              let was : min (times id ids + 1) most_holds ≤ (slot_at old id).holds = omega (arith, backs.holds id, times-same id ids) in
+              let was : min (times id ids + 1) MOST_HOLDS ≤ (slot_at old id).holds = omega (arith, backs.holds id, times-same id ids) in
               let count : times other ids ≡ times id ids = ap (λ x. times x ids) same in
               omega (arith, there, count, (less (slot_at old id) (times id ids) was).0)
           | inr apart ↦
@@ -108,7 +109,7 @@ keeps-released old new ids id backs changes = record { values = by }
     by other is =
         elim (cases_eq other id) [
           | inl same ↦
-              let was : min (times id ids + 1) most_holds ≤ (slot_at old id).holds = omega (arith, backs.holds id, times-same id ids) in
+              let was : min (times id ids + 1) MOST_HOLDS ≤ (slot_at old id).holds = omega (arith, backs.holds id, times-same id ids) in
               let some : 1 ≤ times id ids = subst (λ x. 1 ≤ times x ids) same (times-in other ids is) in
               ap (values_of new) same ∙ ap (λ (s : Slot). s.key.values) changes.there ∙ (less (slot_at old id) (times id ids) was).1 some ∙ ap (values_of old) (sym same)
           | inr apart ↦ ap (λ (s : Slot). s.key.values) (changes.others other apart)

@@ -4,13 +4,10 @@ use Rattle.ent_types.specs.declared.value.Value.{Value}
 use Rattle.world_model.specs.Members.{In}
 use Rattle.world_model.specs.Part.{PartOf}
 use Rattle.shared_values.specs.declared.table.Slot.{Slot as Interned}
+use Rattle.shared_values.specs.declared.table.TheConstants.{MOST_HOLDS}
 use Rattle.shared_values.specs.Holds.{holds_of, values_of}
 use Rattle.archetype_store.specs.Times.{times}
 use Rattle.archetype_store.specs.declared.shared_parts.SharedPart.{SharedPart}
-
--- the greatest count of holders of an id
-abbrev pub most_holds : ℕ
-most_holds = 18446744073709551615
 
 -- the part that a type and an id stand for
 abbrev pub part_of : List Interned → SharedPart → PartOf Value
@@ -24,7 +21,7 @@ ids_of ps = map (λ p. p.id) ps
 
 -- each id is held as often as it is in the list, or as often as is counted
 pub record Backs (table : List Interned) (ids : List ℕ) : Type 0 where
-  pub holds : (id : ℕ) → min (times id ids) most_holds ≤ holds_of table id
+  pub holds : (id : ℕ) → min (times id ids) MOST_HOLDS ≤ holds_of table id
 
 -- the ids of a list have the values that they had
 pub record KeepsValues (old new : List Interned) (ids : List ℕ) : Type 0 where

@@ -9,7 +9,7 @@ use Rattle.world_model.specs.Part.{PartOf, same_part}
 use Rattle.ent_types.specs.declared.type_info.TypeInfo.{TypeInfo}
 use Rattle.world_model.specs.World.{capacity}
 use Rattle.block_columns.specs.declared.shape.TypeShape.{TypeShape}
-use Rattle.chunk_block.specs.Blocks.{new_types}
+use Rattle.chunk_block.specs.Blocks.{BlockState, new_types}
 use Rattle.shared_values.specs.declared.table.Slot.{Slot as Interned}
 use Rattle.archetype_store.specs.declared.numbers.TheConstants.{MOST_NUMBERS}
 use Rattle.archetype_store.specs.declared.shared_parts.SharedPart.{SharedPart}
@@ -17,7 +17,7 @@ use Rattle.archetype_store.specs.declared.slots.Held.{Held}
 use Rattle.archetype_store.specs.declared.store.ArchetypeStore.TheInside.{Inside}
 use Rattle.archetype_store.specs.Holding.{parts_of, ids_of, Backs}
 use Rattle.archetype_store.specs.Slots.{slot_at, AreFree, AreOrdered, ArePlaced, numbers_of, of_slots}
-use Rattle.archetype_store.specs.Stores.{Numbered, StoreState, types_at, shared_types}
+use Rattle.archetype_store.specs.Stores.{Numbered, StoreState, AreApart, types_at, shared_types}
 
 -- ---- what contracts see
 
@@ -134,3 +134,35 @@ is_open slots table parts n = open_of table parts (slot_at slots n)
 abbrev pub AreUsed : List (Option Held) → List ℕ → Type 0
 AreUsed slots [] = Unit {0}
 AreUsed slots (n ∷ ns) = IsSome (slot_at slots n) × AreUsed slots ns
+
+-- ---- the places of numbers among those of an archetype
+
+abbrev pub number_at : List ℕ → ℕ → ℕ
+number_at numbers k = slice_index_or numbers k 0
+
+-- the rank of a block; 0 where there is none
+abbrev pub rank_at : List (Option Held) → ℕ → ℕ
+rank_at slots n = unwrap_or (option_map (λ (h : Held). h.rank) (slot_at slots n)) 0
+
+-- the ranks of the blocks rise
+abbrev pub RanksRise : List (Option Held) → List ℕ → Type 0
+RanksRise slots numbers = (j k : ℕ) → j < k → k < length numbers → rank_at slots (number_at numbers j) < rank_at slots (number_at numbers k)
+
+-- one of the blocks has this rank
+pub record HasRank (slots : List (Option Held)) (numbers : List ℕ) (rank : ℕ) : Type 0 where
+  pub place : ℕ
+  pub below : place < length numbers
+  pub is : rank_at slots (number_at numbers place) ≡ rank
+
+-- ---- the walk over the blocks
+
+-- what a slot has of the walk
+abbrev pub walked_slot : ℕ → Option Held → Option (ℕ × BlockState)
+walked_slot n slot = option_map (λ (h : Held). (n, h.block)) slot
+
+abbrev pub walked_at : List (Option Held) → Option ℕ → Option (ℕ × BlockState)
+walked_at slots at = option_and_then (λ n. walked_slot n (slot_at slots n)) at
+
+-- the blocks of numbers, with their numbers
+abbrev pub walked : List (Option Held) → List (Option ℕ) → List (ℕ × BlockState)
+walked slots order = filter_map (walked_at slots) order

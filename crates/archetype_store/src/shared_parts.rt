@@ -1,11 +1,12 @@
 //! Shared values that blocks hold by their ids.
-ghost use Rattle.std.specs.Prelude.{◌≡◌, ℕ, List, ◌+◌, ◌≤◌, [], ◌∷◌, ◌++◌, map, length, IfOk, OnOk, OnErr, vec_capacity};
+ghost use Rattle.std.specs.Prelude.{◌≡◌, ℕ, List, ◌+◌, ◌≤◌, [], ◌∷◌, ◌++◌, map, length, IfOk, OnOk, OnErr, IsSome, Some, vec_capacity};
 ghost use Rattle.std.specs.Cmp.Lexicographic.{pointwise};
 ghost use Rattle.world_model.specs.Part.{part_of as seen_part, same_part};
+ghost use Rattle.world_model.specs.Found.{part_at};
 ghost use Rattle.shared_values.specs.Holds.{values_of, IsHeld};
 ghost use Rattle.archetype_store.specs.Holding.{part_of as seen, parts_of, ids_of, Backs, Holds, Releases};
 
-use ent_types::{Memory, Part, TypeId};
+use ent_types::{Memory, Part, TypeId, Values};
 use shared_values::{SharedId, SharedTable};
 use std::alloc::Global;
 
@@ -67,6 +68,24 @@ pub(crate) fn hold_all(
         Err(fault) => {
             release_all(table, &held);
             Err(fault)
+        }
+    }
+}
+
+/// Returns the values of a type, which has a part.
+pub(crate) fn values_in<'a>(table: &'a SharedTable, held: &[SharedPart], ty: TypeId) -> &'a Values
+    requires backs { Backs table.now (ids_of held.now) }
+    requires there { IsSome (part_at ty.0 (parts_of table.now held.now)) }
+    ensures { part_at ty.0 (parts_of table.now held.now) ≡ Some result.now }
+{
+    match held.split_first() {
+        None => unreachable!(),
+        Some((part, rest)) => {
+            if part.ty == ty {
+                table.values_of(part.id)
+            } else {
+                values_in(table, rest, ty)
+            }
         }
     }
 }

@@ -1,22 +1,25 @@
 //! The store.
-ghost use Rattle.std.specs.Prelude.{◌≡◌, ℕ, ⊤, ◌<◌, ◌≤◌, ◌++◌, ◌∷◌, [], length, map, not, slice_get, slice_set, fold, option_map, IfOk, OnOk, OnErr, MatchResult, None, Some, OnSome, IfSome, IfNone, IfErr, true, false, nat_eq, vec_capacity};
+ghost use Rattle.std.specs.Prelude.{◌≡◌, ℕ, ⊤, ◌<◌, ◌≤◌, ◌++◌, ◌∷◌, [], length, map, not, slice_get, slice_set, fold, option_map, IfOk, OnOk, OnErr, MatchResult, None, Some, OnSome, IfSome, IsSome, IfNone, IfErr, true, false, nat_eq, vec_capacity};
 ghost use Rattle.std.specs.Cmp.Lexicographic.{pointwise};
 ghost use Rattle.chunk_block.specs.declared.block.BlockFault.TheVariants as fault;
 ghost use Rattle.std.specs.List.{flat_map, list_any};
 ghost use Rattle.ent_types.specs.declared.limits.TheConstants.{MOST_BLOCK_ROWS};
 ghost use Rattle.world_model.specs.Part.{part_of as seen_part, part_type};
 ghost use Rattle.world_model.specs.World.{capacity};
+ghost use Rattle.world_model.specs.Found.{part_at};
 ghost use Rattle.block_columns.specs.Types.{with_value, with_off, with_values, TakesValue, TakesElements, IsEnableable};
 ghost use Rattle.buffer_store.specs.Buffers.{buffer};
 ghost use Rattle.chunk_block.specs.Blocks.{BlockState, LoanState, IsWhole, IsLoanOf, AreHeld, OfType, changed, content_at, given_rows, given_type, new_block, lent_piece, lent_row, lent_type, new_row, row_in, with_mark};
 ghost use Rattle.archetype_store.specs.declared.numbers.TheConstants.{MOST_NUMBERS as most_numbers};
-ghost use Rattle.archetype_store.specs.Stores.{StoreState, OfNumber, OfBlock, with_block_in, Adds, Finds, LacksTypes, Opens, IsFirstWithRoom, is_full, types_at, shared_types, registry_of};
+ghost use Rattle.archetype_store.specs.Stores.{StoreState, OfNumber, OfBlock, with_block_in, Adds, Finds, HasBlocks, IsStore, LacksTypes, Opens, IsFirstWithRoom, is_full, left, moved_into, numbered_blocks, numbers_in, rank_of, types_at, shared_types, registry_of, without_block, without_row};
 
+use crate::blocks::Blocks;
 use crate::numbers::{MOST_NUMBERS, put, take_room};
-use crate::slots::{Held, first_open, held_at, new_held};
+use crate::shared_parts::{release_all, values_in};
+use crate::slots::{Held, first_open, held_at, home_of, new_held, place_in, take_out};
 use buffer_store::Elements;
 use chunk_block::{Block, BlockFault, Loan};
-use ent_types::{Entity, Memory, Part, Registry, SystemVersion, TypeId, TypeSet, Value};
+use ent_types::{Entity, Memory, Part, Registry, SystemVersion, TypeId, TypeSet, Value, Values};
 use shared_values::SharedTable;
 use std::alloc::Global;
 use std::marker::Model;
@@ -84,6 +87,75 @@ impl ArchetypeStore {
         ensures { OfBlock number (λ b. result.now ≡ b) self.now.blocks }
     {
         &held_at(&self.slots, number).block
+    }
+
+    /// Says what always holds of a store. It does nothing.
+    pub fn is_sound(&self)
+        ensures { IsStore self.now }
+    {
+        let _ = &self.slots;
+    }
+
+    /// Counts the archetypes. Their ids are the numbers below it.
+    pub fn archetypes(&self) -> u32
+        ensures { result ≡ length self.now.archetypes }
+    {
+        self.archetypes.len() as u32
+    }
+
+    /// Returns the archetype that was made after `k` others.
+    pub fn archetype_at(&self, k: u32) -> ArchetypeId
+        requires { k < length self.now.archetypes }
+        ensures { result ≡ k }
+    {
+        ArchetypeId(k)
+    }
+
+    /// Returns the types of an archetype.
+    pub fn types_of(&self, a: ArchetypeId) -> &TypeSet
+        requires { a < length self.now.archetypes }
+        ensures { result.now ≡ types_at self.now.archetypes a }
+    {
+        &self.archetypes[a.0 as usize]
+    }
+
+    /// Returns the numbers of the blocks of an archetype, in block order.
+    pub fn blocks_of(&self, a: ArchetypeId) -> &[u32]
+        requires { a < length self.now.archetypes }
+        ensures { result.now ≡ numbers_in a self.now.blocks }
+    {
+        &self.members[a.0 as usize]
+    }
+
+    /// Returns the archetype of a block.
+    pub fn archetype(&self, number: u32) -> ArchetypeId
+        requires { OfBlock number (λ _. ⊤) self.now.blocks }
+        ensures { OfNumber number (λ b. result ≡ b.archetype) self.now.blocks }
+    {
+        ArchetypeId(held_at(&self.slots, number).archetype)
+    }
+
+    /// Returns the rank of a block. Ranks rise in block order.
+    pub fn rank(&self, number: u32) -> u64
+        requires { OfBlock number (λ _. ⊤) self.now.blocks }
+        ensures { result ≡ rank_of number self.now.blocks self.now.ranks }
+    {
+        held_at(&self.slots, number).rank as u64
+    }
+
+    /// Returns the values of a block for one of its shared types.
+    pub fn shared_of(&self, number: u32, ty: TypeId) -> &Values
+        requires { OfNumber number (λ b. IsSome (part_at ty.0 b.shared)) self.now.blocks }
+        ensures { OfNumber number (λ b. part_at ty.0 b.shared ≡ Some result.now) self.now.blocks }
+    {
+        values_in(&self.shared, &held_at(&self.slots, number).shared, ty)
+    }
+
+    /// Walks the blocks with their numbers, in block order.
+    pub fn blocks(&self) -> Blocks<'_>
+        ensures { result ≡ numbered_blocks self.now.blocks }
+    {
+        Blocks::new(&self.slots, &self.order)
     }
 
     /// Adds a row for an entity to a block that has room.
@@ -269,6 +341,47 @@ impl ArchetypeStore {
         self.order.push_reserved(Some(number));
         self.members[at].push_reserved(number);
         Ok(number)
+    }
+
+    /// Removes a row. The last row of the block takes its place, and its entity is returned; `None` if and only if the row was the
+    /// last. If it was the only row, the block goes: its number is free again, its shared values are released, and the other blocks
+    /// keep their order. It takes no memory.
+    pub fn leave(&mut self, number: u32, row: u32) -> Option<Entity>
+        requires { OfBlock number (λ b. (row < length b.rows) × IsWhole b.columns) self.old.blocks }
+        ensures moved { OfBlock number (λ b. result ≡ moved_into row b) self.old.blocks }
+        ensures blocks { HasBlocks self.old self.new (left number row self.old.blocks) }
+    {
+        let moved = self.remove_row(number, row);
+        if self.block(number).len() == 0 {
+            self.remove_block(number);
+        }
+        moved
+    }
+
+    /// Removes a row. The last row of the block takes its place, and its entity is returned.
+    fn remove_row(&mut self, number: u32, row: u32) -> Option<Entity>
+        requires { OfBlock number (λ b. (row < length b.rows) × IsWhole b.columns) self.old.blocks }
+        ensures moved { OfBlock number (λ b. result ≡ moved_into row b) self.old.blocks }
+        ensures store { self.new ≡ with_block_in number (without_row row) self.old }
+    {
+        match &mut self.slots[number as usize] {
+            Some(held) => held.block.swap_remove_row(row),
+            None => unreachable!(),
+        }
+    }
+
+    /// Removes a block, and releases its shared values. Its number is free again.
+    fn remove_block(&mut self, number: u32)
+        requires { OfBlock number (λ _. ⊤) self.old.blocks }
+        ensures { HasBlocks self.old self.new (without_block number self.old.blocks) }
+    {
+        let (archetype, rank) = home_of(&self.slots, number);
+        let at = place_in(&self.slots, &self.members[archetype], rank);
+        self.members[archetype].remove(at);
+        let shared = take_out(&mut self.slots, number);
+        self.order[rank] = None;
+        self.free.push_reserved(number);
+        release_all(&mut self.shared, &shared);
     }
 
     /// Returns the archetype with some types, and makes it if there is none. The registry is that of each earlier call. `TooLarge`

@@ -29,7 +29,7 @@ impl Model for SharedId {
 }
 
 /// The greatest count of holders. A count that has come to it stays there, so its id is never free again.
-const MOST_HOLDS: u64 = u64::MAX;
+pub const MOST_HOLDS: u64 = u64::MAX;
 
 /// What is kept for an id: its type and values, and how often it is held. A free one is held 0 times.
 #[derive(Drop)]
