@@ -269,7 +269,7 @@ order-there slots order ordered k n at = by (slot_at slots n) (slot-kept slots n
 
 -- ---- what is added
 
-types-of-parts : (table : List Interned) (ps : List SharedPart) → map part_type (parts_of table ps) ≡ map (λ p. p.ty.0) ps
+pub types-of-parts : (table : List Interned) (ps : List SharedPart) → map part_type (parts_of table ps) ≡ map (λ p. p.ty.0) ps
 types-of-parts table [] = refl
 types-of-parts table (p ∷ ps) = ap (λ ts. p.ty.0 ∷ ts) (types-of-parts table ps)
 

@@ -7,3 +7,8 @@ pub mod Writes
 pub mod Shapes
 pub mod Added
 pub mod Found
+pub mod Ranks
+pub mod Removed
+pub mod Left
+pub mod Sound
+pub mod Reading

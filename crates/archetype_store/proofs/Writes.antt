@@ -14,7 +14,7 @@ use Rattle.archetype_store.proofs.Orders.{below_of, none_some, some_is}
 use Rattle.archetype_store.proofs.Views.{at_number, for_number, written, kept-written}
 
 -- what holds of a block that was changed
-of-changed : (n : ℕ) (f : BlockState → BlockState) (Q : BlockState → Type 0) (P : Numbered → Type 0) (bs : List Numbered) → OfNumber n P bs → ((b : Numbered) → P b → Q (f b.block)) → OfBlock n Q (with_block n f bs)
+pub of-changed : (n : ℕ) (f : BlockState → BlockState) (Q : BlockState → Type 0) (P : Numbered → Type 0) (bs : List Numbered) → OfNumber n P bs → ((b : Numbered) → P b → Q (f b.block)) → OfBlock n Q (with_block n f bs)
 of-changed n f Q P [] is so = absurd is
 of-changed n f Q P (b ∷ bs) is so = by (nat_eq b.number n) refl is (λ h. of-changed n f Q P bs h so)
   where

@@ -144,16 +144,6 @@ number_at numbers k = slice_index_or numbers k 0
 abbrev pub rank_at : List (Option Held) → ℕ → ℕ
 rank_at slots n = unwrap_or (option_map (λ (h : Held). h.rank) (slot_at slots n)) 0
 
--- the ranks of the blocks rise
-abbrev pub RanksRise : List (Option Held) → List ℕ → Type 0
-RanksRise slots numbers = (j k : ℕ) → j < k → k < length numbers → rank_at slots (number_at numbers j) < rank_at slots (number_at numbers k)
-
--- one of the blocks has this rank
-pub record HasRank (slots : List (Option Held)) (numbers : List ℕ) (rank : ℕ) : Type 0 where
-  pub place : ℕ
-  pub below : place < length numbers
-  pub is : rank_at slots (number_at numbers place) ≡ rank
-
 -- ---- the walk over the blocks
 
 -- what a slot has of the walk

@@ -1,12 +1,13 @@
 //! What a store keeps for each block, by the block's number.
 ghost use Rattle.std.specs.Prelude.{◌≡◌, ℕ, List, ◌<◌, ◌&&◌, nat_lt, [], length, map, find, unwrap_or, slice_set, None, Some, IsSome, IfSome, IfOk, OnErr};
+ghost use Rattle.world_model.specs.Members.{In, IsRising};
 ghost use Rattle.world_model.specs.World.{capacity};
 ghost use Rattle.chunk_block.specs.Blocks.{new_block as block_of};
 ghost use Rattle.std.specs.Cmp.Lexicographic.{pointwise};
 ghost use Rattle.world_model.specs.Part.{part_of as seen_part, same_part};
 ghost use Rattle.archetype_store.specs.Slots.{slot_at};
 ghost use Rattle.archetype_store.specs.Holding.{Backs, Holds, ids_of, parts_of};
-ghost use Rattle.archetype_store.specs.Inside.{AreUsed, HasRank, RanksRise, all_ids, is_open, kept, number_at, rank_at};
+ghost use Rattle.archetype_store.specs.Inside.{AreUsed, all_ids, is_open, kept, number_at, rank_at};
 
 use crate::shared_parts::{SharedPart, are_values, hold_all};
 use chunk_block::{Block, BlockFault};
@@ -36,7 +37,7 @@ pub(crate) fn held_at(slots: &[Option<Held>], number: u32) -> &Held
 }
 
 /// Returns the archetype and the rank of a block.
-pub(crate) fn home_of(slots: &[Option<Held>], number: u32) -> (usize, usize)
+pub(crate) fn archetype_and_rank(slots: &[Option<Held>], number: u32) -> (usize, usize)
     requires { IsSome (slot_at slots.now number) }
     ensures { IfSome (slot_at slots.now number) (λ held. (result.0 ≡ held.archetype) × (result.1 ≡ held.rank)) }
 {
@@ -47,9 +48,10 @@ pub(crate) fn home_of(slots: &[Option<Held>], number: u32) -> (usize, usize)
 /// Returns the place of the block with a rank, among numbers of blocks in block order.
 pub(crate) fn place_in(slots: &[Option<Held>], numbers: &[u32], rank: usize) -> usize
     requires used { AreUsed slots.now numbers.now }
-    requires rising { RanksRise slots.now numbers.now }
-    requires there { HasRank slots.now numbers.now rank }
-    ensures { (result < length numbers.now) × (rank_at slots.now (number_at numbers.now result) ≡ rank) }
+    requires rising { IsRising (map (rank_at slots.now) numbers.now) }
+    requires there { In rank (map (rank_at slots.now) numbers.now) }
+    ensures within { result < length numbers.now }
+    ensures rank { rank_at slots.now (number_at numbers.now result) ≡ rank }
 {
     let mut low = 0;
     let mut high = numbers.len();
@@ -64,14 +66,14 @@ pub(crate) fn place_in(slots: &[Option<Held>], numbers: &[u32], rank: usize) -> 
     low
 }
 
-/// Takes a block out of its slot, and returns its shared values.
-pub(crate) fn take_out(slots: &mut Vec<Option<Held>>, number: u32) -> Vec<SharedPart>
+/// Takes a block out of its slot.
+pub(crate) fn take_out(slots: &mut Vec<Option<Held>>, number: u32) -> Held
     requires { IsSome (slot_at slots.old.items number) }
-    ensures shared { IfSome (slot_at slots.old.items number) (λ held. result.items ≡ held.shared.items) }
+    ensures held { slot_at slots.old.items number ≡ Some result }
     ensures slots { slots.new.items ≡ slice_set slots.old.items number None }
 {
     match slots[number as usize].take() {
-        Some(held) => held.shared,
+        Some(held) => held,
         None => unreachable!(),
     }
 }

@@ -16,7 +16,7 @@ ghost use Rattle.archetype_store.specs.Stores.{StoreState, OfNumber, OfBlock, wi
 use crate::blocks::Blocks;
 use crate::numbers::{MOST_NUMBERS, put, take_room};
 use crate::shared_parts::{release_all, values_in};
-use crate::slots::{Held, first_open, held_at, home_of, new_held, place_in, take_out};
+use crate::slots::{Held, archetype_and_rank, first_open, held_at, new_held, place_in, take_out};
 use buffer_store::Elements;
 use chunk_block::{Block, BlockFault, Loan};
 use ent_types::{Entity, Memory, Part, Registry, SystemVersion, TypeId, TypeSet, Value, Values};
@@ -375,13 +375,13 @@ impl ArchetypeStore {
         requires { OfBlock number (λ _. ⊤) self.old.blocks }
         ensures { HasBlocks self.old self.new (without_block number self.old.blocks) }
     {
-        let (archetype, rank) = home_of(&self.slots, number);
+        let (archetype, rank) = archetype_and_rank(&self.slots, number);
         let at = place_in(&self.slots, &self.members[archetype], rank);
         self.members[archetype].remove(at);
-        let shared = take_out(&mut self.slots, number);
+        let held = take_out(&mut self.slots, number);
         self.order[rank] = None;
         self.free.push_reserved(number);
-        release_all(&mut self.shared, &shared);
+        release_all(&mut self.shared, &held.shared);
     }
 
     /// Returns the archetype with some types, and makes it if there is none. The registry is that of each earlier call. `TooLarge`
