@@ -2,6 +2,7 @@
 use Rattle.std.proofs.Common.{◌≡◌, ◌≢◌, ℕ, zero, suc, ◌+◌, ◌<◌, inl, inr, Bool, true, false, cond, nat_eq, List, [], ◌∷◌, ◌++◌, length, map, filter, Option, Some, None, refl, sym, ap, ◌∙◌, subst, arith}
 use Rattle.std.specs.Prelude.{option_map}
 use Rattle.std.specs.Bool.{MatchBool}
+use Rattle.std.specs.Option.{IsSome}
 use Rattle.std.specs.List.{cons_option}
 use Rattle.std.proofs.lemmas.Bool.{cases_eq, eq-eqb, ne_eqb}
 use Rattle.chunk_block.specs.Blocks.{BlockState}
@@ -73,6 +74,9 @@ module _ (s : Inside) (store : StoreState) (seen : view_of s ≡ store) (n : ℕ
 
   pub number-holds : (h : Held) → slot_at s.slots.items n ≡ Some h → P (numbered s.shared n h)
   number-holds h at = subst (λ (k : Held). P (numbered s.shared n k)) (some_is here.0 h (sym here.1.0 ∙ at)) here.1.1
+
+  pub number-some : IsSome (slot_at s.slots.items n)
+  number-some = subst IsSome (sym here.1.0) refl
 
   pub of-number : (Q : Numbered → Type 0) (h : Held) → slot_at s.slots.items n ≡ Some h → Q (numbered s.shared n h) → OfNumber n Q store.blocks
   of-number Q h at holds =

@@ -352,6 +352,7 @@ impl ArchetypeStore {
         ensures blocks { HasBlocks self.old self.new (left number row self.old.blocks) }
     {
         let moved = self.remove_row(number, row);
+        self.is_sound();
         if self.block(number).len() == 0 {
             self.remove_block(number);
         }
