@@ -1,5 +1,5 @@
 //! The elements of one buffer.
-ghost use Rattle.std.specs.Prelude.{◌≡◌, ◌≤◌, ◌<◌, [], ◌++◌, length, slice_get, slice_set, Some, OnOk, OnErr, MatchResult};
+ghost use Rattle.std.specs.Prelude.{◌≡◌, ◌≤◌, ◌<◌, ◌*◌, ◌/◌, [], ◌++◌, length, slice_get, slice_set, Some, IfOk, OnOk, OnErr, MatchResult};
 ghost use Rattle.buffer_store.specs.Buffers.{buffer, count_of, place_of};
 ghost use Rattle.buffer_store.specs.declared.fault.PushFault.TheVariants as fault;
 
@@ -46,6 +46,28 @@ impl<T: Copy> Elements<T> {
             count: 0,
             values: Vec::new(alloc),
         }
+    }
+
+    /// Returns the elements with these values, one element after another.
+    pub fn from_slice(alloc: Global, width: u8, values: &[T]) -> Result<Elements<T>, Memory>
+        requires some { 1 ≤ width }
+        requires narrow { width ≤ 8 }
+        requires few { length values.now / width ≤ MOST_ELEMENTS }
+        requires whole { length values.now ≡ (length values.now / width) * width }
+        ensures { IfOk result (λ e. e ≡ buffer width values.now) }
+    {
+        Ok(Elements {
+            width,
+            count: (values.len() / usize::from(width)) as u32,
+            values: Vec::from_slice(alloc, values)?,
+        })
+    }
+
+    /// Returns the values of all elements, one element after another.
+    pub fn as_slice(&self) -> &[T]
+        ensures { result.now ≡ self.now.values }
+    {
+        &self.values
     }
 
     /// Returns the number of elements.
