@@ -15,7 +15,10 @@ use Rattle.archetype_store.specs.declared.numbers.TheConstants.{MOST_NUMBERS}
 use Rattle.archetype_store.specs.declared.shared_parts.SharedPart.{SharedPart}
 use Rattle.archetype_store.specs.declared.slots.Held.{Held}
 use Rattle.archetype_store.specs.declared.store.ArchetypeStore.TheInside.{Inside}
-use Rattle.archetype_store.specs.Holding.{parts_of, ids_of, Backs}
+use Rattle.archetype_store.specs.Holding.{AreTyped, parts_of, ids_of, Backs}
+use Rattle.archetype_store.specs.HomeKeys.{same_home}
+use Rattle.archetype_store.specs.Homes.{AreHomes, homes_of, lodgers}
+use Rattle.std.specs.HashMap.{get}
 use Rattle.archetype_store.specs.Slots.{slot_at, AreFree, AreOrdered, ArePlaced, numbers_of, of_slots}
 use Rattle.archetype_store.specs.Stores.{Numbered, StoreState, AreApart, types_at, shared_types}
 
@@ -116,19 +119,14 @@ pub record IsOrderly (registry : Option (List TypeInfo)) (archetypes members : L
   -- a block of each archetype has room for a row
   pub fit : (a : ℕ) → a < length archetypes → 0 < capacity (unwrap_or registry []) (types_at archetypes a)
 
+-- the ids of each block have the types of their parts
+abbrev pub AreAllTyped : List Interned → List (Option Beside) → Type 0
+AreAllTyped table slots = (n : ℕ) (x : Beside) → slot_at slots n ≡ Some x → AreTyped table x.shared
+
 abbrev pub IsConsistent : Inside → Type 0
 IsConsistent s =
     IsOrderly s.registry s.archetypes.items (map (λ v. v.items) s.members.items) (kept s.slots.items) s.free.items (vec_capacity s.free) s.order.items s.shared
-
--- ---- room for a row
-
--- the block of a slot has room and these shared values
-abbrev pub open_of : List Interned → List (PartOf Value) → Option Held → Bool
-open_of table parts None = false
-open_of table parts (Some h) = nat_lt (length h.block.rows) h.block.capacity && pointwise same_part parts (parts_of table h.shared.items)
-
-abbrev pub is_open : List (Option Held) → List Interned → List (PartOf Value) → ℕ → Bool
-is_open slots table parts n = open_of table parts (slot_at slots n)
+    × (AreAllTyped s.shared (kept s.slots.items) × AreHomes (homes_of s.homes.items) (get same_home s.found) (lodgers s.slots.items) s.order.items)
 
 -- each of the numbers has a block
 abbrev pub AreUsed : List (Option Held) → List ℕ → Type 0

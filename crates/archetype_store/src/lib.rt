@@ -5,6 +5,7 @@
 #![tactic(auto)]
 
 mod blocks;
+mod homes;
 mod numbers;
 mod shared_parts;
 mod slots;

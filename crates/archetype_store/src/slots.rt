@@ -23,6 +23,8 @@ pub(crate) struct Held {
     pub(crate) shared: Vec<SharedPart>,
     /// The place in block order.
     pub(crate) rank: usize,
+    /// The home of its rows.
+    pub(crate) home: usize,
 }
 
 /// Returns the block of a number.
@@ -78,41 +80,6 @@ pub(crate) fn take_out(slots: &mut Vec<Option<Held>>, number: u32) -> Held
     }
 }
 
-/// `true` if a block has room for a row, and these values of its shared types.
-fn has_room(table: &SharedTable, held: &Held, parts: &[Part]) -> bool
-    requires { Backs table.now (ids_of held.now.shared.items) }
-    ensures { result ≡ (nat_lt (length held.now.block.rows) held.now.block.capacity && pointwise same_part (map seen_part parts.now) (parts_of table.now held.now.shared.items)) }
-{
-    if held.block.len() < held.block.capacity() {
-        are_values(table, &held.shared, parts)
-    } else {
-        false
-    }
-}
-
-/// Returns the first of some numbers whose block has room, and these values of its shared types.
-pub(crate) fn first_open(
-    slots: &[Option<Held>],
-    table: &SharedTable,
-    numbers: &[u32],
-    parts: &[Part],
-) -> Option<u32>
-    requires used { AreUsed slots.now numbers.now }
-    requires backs { Backs table.now (all_ids (kept slots.now)) }
-    ensures { result ≡ find (is_open slots.now table.now (map seen_part parts.now)) numbers.now }
-{
-    match numbers.split_first() {
-        None => None,
-        Some((number, rest)) => {
-            if has_room(table, held_at(slots, *number), parts) {
-                Some(*number)
-            } else {
-                first_open(slots, table, rest, parts)
-            }
-        }
-    }
-}
-
 /// Returns a block of some types, of which a block has room for a row.
 fn new_block(alloc: Global, registry: &Registry, types: &TypeSet) -> Result<Block, Memory>
     requires { 0 < capacity registry.now types.now }
@@ -125,34 +92,72 @@ fn new_block(alloc: Global, registry: &Registry, types: &TypeSet) -> Result<Bloc
     }
 }
 
-/// Returns a new block of some types, and holds its shared values. After `Memory` nothing more is held than before.
+/// Returns a new block of some types, holds its shared values, and makes room for it in their home. After `Memory` nothing more is
+/// held than before.
 pub(crate) fn new_held(
     alloc: Global,
     registry: &Option<Registry>,
     types: &TypeSet,
     table: &mut SharedTable,
+    homes: &mut Vec<Home>,
+    found: &mut HashMap<HomeKey, usize>,
     archetype: u32,
     rank: usize,
     parts: &[Part],
 ) -> Result<Held, Memory>
     requires fit { 0 < capacity (unwrap_or registry.now []) types.now }
     requires registered { IsSome registry.now }
+    requires known { AreKnown (homes_of homes.old.items) (get same_home found.old) }
+    requires few { AreFew (homes_of homes.old.items) }
     ensures block { IfOk result (λ h. h.block ≡ block_of (unwrap_or registry.now []) types.now (capacity (unwrap_or registry.now []) types.now)) }
     ensures archetype { IfOk result (λ h. h.archetype ≡ archetype) }
     ensures rank { IfOk result (λ h. h.rank ≡ rank) }
     ensures parts { IfOk result (λ h. parts_of table.new h.shared.items ≡ map seen_part parts.now) }
     ensures held { IfOk result (λ h. (others : List ℕ) → Backs table.old others → Holds table.old table.new [] h.shared.items others) }
+    ensures typed { IfOk result (λ h. AreTyped table.new h.shared.items) }
+    ensures home { IfOk result (λ h. IsHomeFor (homes_of homes.new.items) (get same_home found.new) (record { archetype = archetype; ids = ids_of h.shared.items }) h.home) }
+    ensures homes { (slots : List (Option Lodger)) (order : List (Option ℕ)) → AreHomes (homes_of homes.old.items) (get same_home found.old) slots order → AreHomes (homes_of homes.new.items) (get same_home found.new) slots order }
     ensures err { OnErr result ((others : List ℕ) → Backs table.old others → Holds table.old table.new [] [] others) }
 {
     let block = match registry {
         None => unreachable!(),
         Some(registry) => new_block(alloc, registry, types)?,
     };
-    let shared = hold_all(alloc, table, parts)?;
+    let (shared, home) = hold_home(alloc, table, homes, found, archetype, parts)?;
     Ok(Held {
         block,
         archetype,
         shared,
         rank,
+        home,
     })
+}
+
+/// Holds the values of some parts, and returns them with their home, which has room for one more block. After `Memory` nothing more
+/// is held than before.
+fn hold_home(
+    alloc: Global,
+    table: &mut SharedTable,
+    homes: &mut Vec<Home>,
+    found: &mut HashMap<HomeKey, usize>,
+    archetype: u32,
+    parts: &[Part],
+) -> Result<(Vec<SharedPart>, usize), Memory>
+    requires known { AreKnown (homes_of homes.old.items) (get same_home found.old) }
+    requires few { AreFew (homes_of homes.old.items) }
+    ensures parts { IfOk result (λ r. parts_of table.new r.0.items ≡ map seen_part parts.now) }
+    ensures held { IfOk result (λ r. (others : List ℕ) → Backs table.old others → Holds table.old table.new [] r.0.items others) }
+    ensures typed { IfOk result (λ r. AreTyped table.new r.0.items) }
+    ensures home { IfOk result (λ r. IsHomeFor (homes_of homes.new.items) (get same_home found.new) (record { archetype = archetype; ids = ids_of r.0.items }) r.1) }
+    ensures homes { (slots : List (Option Lodger)) (order : List (Option ℕ)) → AreHomes (homes_of homes.old.items) (get same_home found.old) slots order → AreHomes (homes_of homes.new.items) (get same_home found.new) slots order }
+    ensures err { OnErr result ((others : List ℕ) → Backs table.old others → Holds table.old table.new [] [] others) }
+{
+    let shared = hold_all(alloc, table, parts)?;
+    match home_for(alloc, homes, found, archetype, &shared) {
+        Ok(home) => Ok((shared, home)),
+        Err(fault) => {
+            release_all(table, &shared);
+            Err(fault)
+        }
+    }
 }

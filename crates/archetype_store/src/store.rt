@@ -1,5 +1,5 @@
 //! The store.
-ghost use Rattle.std.specs.Prelude.{◌≡◌, ℕ, ⊤, ◌<◌, ◌≤◌, ◌++◌, ◌∷◌, [], length, map, not, slice_get, slice_set, fold, option_map, IfOk, OnOk, OnErr, MatchResult, None, Some, OnSome, IfSome, IsSome, IfNone, IfErr, true, false, nat_eq, vec_capacity};
+ghost use Rattle.std.specs.Prelude.{◌≡◌, ℕ, ⊤, ◌<◌, ◌≤◌, ◌++◌, ◌∷◌, [], length, map, not, slice_get, slice_set, fold, option_map, IfOk, OnOk, OnErr, MatchOption, MatchResult, None, Some, OnSome, IfSome, IsSome, IfNone, IfErr, true, false, nat_eq, vec_capacity};
 ghost use Rattle.std.specs.Cmp.Lexicographic.{pointwise};
 ghost use Rattle.chunk_block.specs.declared.block.BlockFault.TheVariants as fault;
 ghost use Rattle.std.specs.List.{flat_map, list_any};
@@ -14,14 +14,18 @@ ghost use Rattle.archetype_store.specs.declared.numbers.TheConstants.{MOST_NUMBE
 ghost use Rattle.archetype_store.specs.Stores.{StoreState, OfNumber, OfBlock, with_block_in, Adds, Finds, HasBlocks, IsStore, LacksTypes, Opens, IsFirstWithRoom, is_full, left, moved_into, numbered_blocks, numbers_in, rank_of, types_at, shared_types, registry_of, without_block, without_row};
 
 use crate::blocks::Blocks;
+use crate::homes::{Home, HomeKey, drop_rank, first_in, note_room};
 use crate::numbers::{MOST_NUMBERS, put, take_room};
-use crate::shared_parts::{release_all, values_in};
+use crate::shared_parts::{find_ids, release_all, values_in};
 use crate::slots::{Held, archetype_and_rank, first_open, held_at, new_held, place_in, take_out};
 use buffer_store::Elements;
 use chunk_block::{Block, BlockFault, Loan};
-use ent_types::{Entity, Memory, Part, Registry, SystemVersion, TypeId, TypeSet, Value, Values};
+use ent_types::{
+    Entity, Memory, Part, Registry, Sequence, SystemVersion, TypeId, TypeSet, Value, Values,
+};
 use shared_values::SharedTable;
 use std::alloc::Global;
+use std::collections::HashMap;
 use std::marker::Model;
 
 /// The id of an archetype. It is the archetype's place in the order in which the archetypes were made.
@@ -51,6 +55,8 @@ pub struct ArchetypeStore {
     free: Vec<u32>,
     order: Vec<Option<u32>>,
     shared: SharedTable,
+    homes: Vec<Home>,
+    found: HashMap<HomeKey, usize>,
 }
 
 impl Model for ArchetypeStore {
@@ -78,6 +84,8 @@ impl ArchetypeStore {
             free: Vec::new(alloc),
             order: Vec::new(alloc),
             shared: SharedTable::new(alloc),
+            homes: Vec::new(alloc),
+            found: HashMap::new(alloc),
         }
     }
 
@@ -164,6 +172,10 @@ impl ArchetypeStore {
         ensures place { OfBlock number (λ b. result ≡ length b.rows) self.old.blocks }
         ensures store { self.new ≡ with_block_in number (λ b. record b { rows = b.rows ++ new_row b.columns e ∷ [] }) self.old }
     {
+        let held = held_at(&self.slots, number);
+        let (home, rank) = (held.home, held.rank);
+        let roomy = held.block.len() + 1 < held.block.capacity();
+        note_room(&mut self.homes[home], rank, true, roomy);
         match &mut self.slots[number as usize] {
             Some(held) => held.block.push_row(e),
             None => unreachable!(),
@@ -290,24 +302,28 @@ impl ArchetypeStore {
         ensures ok { IfOk result (Opens self.old self.new a (map seen_part shared.now)) }
         ensures err { OnErr result (self.new ≡ self.old) }
     {
-        match self.open_block(a, shared) {
+        match self.open_block(a, shared)? {
             Some(number) => Ok(number),
             None => self.add_block(a, shared),
         }
     }
 
     /// Returns the first block that has room for a row with these shared values.
-    fn open_block(&self, a: ArchetypeId, shared: &[Part]) -> Option<u32>
-        requires { a < length self.now.archetypes }
-        ensures some { IfSome result (λ n. IsFirstWithRoom a (map seen_part shared.now) n self.now.blocks) }
-        ensures none { IfNone result (is_full a (map seen_part shared.now) self.now.blocks ≡ true) }
+    fn open_block(&self, a: ArchetypeId, shared: &[Part]) -> Result<Option<u32>, Memory>
+        ensures { IfOk result (λ found. MatchOption found (is_full a (map seen_part shared.now) self.now.blocks ≡ true) (λ n. IsFirstWithRoom a (map seen_part shared.now) n self.now.blocks)) }
     {
-        first_open(
-            &self.slots,
-            &self.shared,
-            &self.members[a.0 as usize],
-            shared,
-        )
+        self.shared.has_one_each();
+        let alloc = *self.order.allocator();
+        match find_ids(alloc, &self.shared, shared)? {
+            None => Ok(None),
+            Some(ids) => {
+                let key = HomeKey {
+                    archetype: a.0,
+                    ids: Sequence::from_vec(ids),
+                };
+                Ok(first_in(&self.homes, &self.found, &self.order, &key))
+            }
+        }
     }
 
     /// Adds a block without rows at the end.
@@ -333,13 +349,17 @@ impl ArchetypeStore {
             &self.registry,
             types,
             &mut self.shared,
+            &mut self.homes,
+            &mut self.found,
             a.0,
             rank,
             shared,
         )?;
+        let home = held.home;
         let number = put(&mut self.slots, &mut self.free, held);
         self.order.push_reserved(Some(number));
         self.members[at].push_reserved(number);
+        self.homes[home].ranks.push_reserved(rank);
         Ok(number)
     }
 
@@ -365,21 +385,26 @@ impl ArchetypeStore {
         ensures moved { OfBlock number (λ b. result ≡ moved_into row b) self.old.blocks }
         ensures store { self.new ≡ with_block_in number (without_row row) self.old }
     {
+        let held = held_at(&self.slots, number);
+        let (home, rank) = (held.home, held.rank);
+        let roomy = held.block.len() < held.block.capacity();
+        note_room(&mut self.homes[home], rank, roomy, true);
         match &mut self.slots[number as usize] {
             Some(held) => held.block.swap_remove_row(row),
             None => unreachable!(),
         }
     }
 
-    /// Removes a block, and releases its shared values. Its number is free again.
+    /// Removes a block that has room for a row, and releases its shared values. Its number is free again.
     fn remove_block(&mut self, number: u32)
-        requires { OfBlock number (λ _. ⊤) self.old.blocks }
+        requires { OfBlock number (λ b. length b.rows < b.capacity) self.old.blocks }
         ensures { HasBlocks self.old self.new (without_block number self.old.blocks) }
     {
         let (archetype, rank) = archetype_and_rank(&self.slots, number);
         let at = place_in(&self.slots, &self.members[archetype], rank);
         self.members[archetype].remove(at);
         let held = take_out(&mut self.slots, number);
+        drop_rank(&mut self.homes[held.home].ranks, rank);
         self.order[rank] = None;
         self.free.push_reserved(number);
         release_all(&mut self.shared, &held.shared);
