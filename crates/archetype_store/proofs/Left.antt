@@ -65,3 +65,12 @@ others-stay n (b ∷ bs) distinct is =
           ap (λ t. cond (not (t && nat_eq (length b.block.rows) 0)) (b ∷ filter (keep n) bs) (filter (keep n) bs)) number
           ∙ ap (λ cs. b ∷ cs) (others-stay n bs distinct.1 rest)
     ]
+
+-- what holds of the block of a number
+pub of-each : (n : ℕ) (P Q : BlockState → Type 0) (bs : List Numbered) → OfBlock n P bs → ((b : BlockState) → P b → Q b) → OfBlock n Q bs
+of-each n P Q [] is so = absurd is
+of-each n P Q (b ∷ bs) is so = by (nat_eq b.number n) is (λ rest. of-each n P Q bs rest so)
+  where
+    by : (t : Bool) → MatchBool t (P b.block) (OfBlock n P bs) → (OfBlock n P bs → OfBlock n Q bs) → MatchBool t (Q b.block) (OfBlock n Q bs)
+    by true here rest = so b.block here
+    by false there rest = rest there

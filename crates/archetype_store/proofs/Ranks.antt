@@ -3,7 +3,9 @@ use Rattle.std.proofs.Common.{◌≡◌, ◌≢◌, ◌⊎◌, ℕ, zero, suc, �
 use Rattle.std.specs.Prelude.{option_map, unwrap_or, count_by, is_some}
 use Rattle.std.specs.List.{cons_option, remove}
 use Rattle.std.specs.Option.{IsSome}
-use Rattle.std.proofs.lemmas.Bool.{eq-eqb, ne_eqb}
+use Rattle.std.proofs.lemmas.Bool.{cases_eq, cases_lt, eq-eqb, ne_eqb}
+use Rattle.std.proofs.lemmas.List.{get_or-map, length-map}
+use Rattle.std.proofs.lemmas.List.Sums.{sum_by-append}
 use Rattle.world_model.specs.Members.{In, IsRising, AreDistinct}
 use Rattle.shared_values.specs.declared.table.Slot.{Slot as Interned}
 use Rattle.archetype_store.specs.declared.slots.Held.{Held}
@@ -72,7 +74,7 @@ told-all slots order ordered k n at =
     let there = order-there slots order ordered k n at in
     let kept_there : slot_at (kept slots) n ≡ Some (beside there.0) = slot-kept slots n ∙ ap (option_map beside) there.1 in
     let rank : Some (there.0).rank ≡ Some k = ap (option_map (λ (x : Beside). x.rank)) (sym kept_there) ∙ ordered k n at in
-    (there.0, (there.1, some_is (there.0).rank k rank))
+    (there.0, (there.1, omega (arith, some_is (there.0).rank k rank)))
 
 told-rest : (slots : List (Option Held)) (i : ℕ) (o : Option ℕ) (os : List (Option ℕ)) → Told slots i (o ∷ os) → Told slots (i + 1) os
 told-rest slots i o os told k n at = let t = told (suc k) n at in (t.0, (t.1.0, omega (arith, t.1.1)))
@@ -87,17 +89,14 @@ module _ (slots : List (Option Held)) (test : Beside → Bool) where
   pub members-above : (i : ℕ) (os : List (Option ℕ)) → Told slots i os → (u : ℕ) → In u (map (rank_at slots) (numbers_of test (kept slots) os)) → i ≤ u
   members-above i [] told u is = absurd is
   members-above i (None ∷ os) told u is = omega (arith, members-above (i + 1) os (told-rest slots i None os told) u is)
-  members-above i (Some m ∷ os) told u is = by (slot_at (kept slots) m) is
+  members-above i (Some m ∷ os) told u is = by (λ there. members-above (i + 1) os (told-rest slots i (Some m) os told) u there) (slot_at (kept slots) m) is
     where
       rank : rank_at slots m ≡ i + 0
       rank = let t = told zero m refl in rank-is slots m t.0 t.1.0 ∙ t.1.1
 
-      rest : In u (map (rank_at slots) (chosen os)) → i + 1 ≤ u
-      rest there = members-above (i + 1) os (told-rest slots i (Some m) os told) u there
-
-      by : (o : Option Beside) → In u (map (rank_at slots) (number_if test m o ++ chosen os)) → i ≤ u
-      by None there = omega (arith, rest there)
-      by (Some x) there = of (test x) there
+      by : (In u (map (rank_at slots) (chosen os)) → i + 1 ≤ u) → (o : Option Beside) → In u (map (rank_at slots) (number_if test m o ++ chosen os)) → i ≤ u
+      by rest None there = omega (arith, rest there)
+      by rest (Some x) there = of (test x) there
         where
           of : (b : Bool) → In u (map (rank_at slots) ((cond b (m ∷ []) []) ++ chosen os)) → i ≤ u
           of true (inl e) = omega (arith, e, rank)
@@ -107,20 +106,17 @@ module _ (slots : List (Option Held)) (test : Beside → Bool) where
   pub members-rise : (i : ℕ) (os : List (Option ℕ)) → Told slots i os → IsRising (map (rank_at slots) (numbers_of test (kept slots) os))
   members-rise i [] told = tt
   members-rise i (None ∷ os) told = members-rise (i + 1) os (told-rest slots i None os told)
-  members-rise i (Some m ∷ os) told = by (slot_at (kept slots) m)
+  members-rise i (Some m ∷ os) told = by (members-rise (i + 1) os (told-rest slots i (Some m) os told)) (slot_at (kept slots) m)
     where
       rank : rank_at slots m ≡ i + 0
       rank = let t = told zero m refl in rank-is slots m t.0 t.1.0 ∙ t.1.1
 
-      rest : IsRising (map (rank_at slots) (chosen os))
-      rest = members-rise (i + 1) os (told-rest slots i (Some m) os told)
-
       above : (u : ℕ) → In u (map (rank_at slots) (chosen os)) → i + 1 ≤ u
       above u there = members-above (i + 1) os (told-rest slots i (Some m) os told) u there
 
-      by : (o : Option Beside) → IsRising (map (rank_at slots) (number_if test m o ++ chosen os))
-      by None = rest
-      by (Some x) = of (test x)
+      by : IsRising (map (rank_at slots) (chosen os)) → (o : Option Beside) → IsRising (map (rank_at slots) (number_if test m o ++ chosen os))
+      by rest None = rest
+      by rest (Some x) = of (test x)
         where
           of : (b : Bool) → IsRising (map (rank_at slots) ((cond b (m ∷ []) []) ++ chosen os))
           of true = (λ u there. omega (arith, rank, above u there), rest)
@@ -134,14 +130,11 @@ module _ (slots : List (Option Held)) (test : Beside → Bool) where
       (subst (λ p. In n (number_if test n p ++ chosen os)) (sym there)
       (subst (λ b. In n ((cond b (n ∷ []) []) ++ chosen os)) (sym passes) (inl refl)))
   member-in (None ∷ os) (suc k) n x at there passes = member-in os k n x at there passes
-  member-in (Some m ∷ os) (suc k) n x at there passes = by (slot_at (kept slots) m)
+  member-in (Some m ∷ os) (suc k) n x at there passes = by (member-in os k n x at there passes) (slot_at (kept slots) m)
     where
-      rest : In n (chosen os)
-      rest = member-in os k n x at there passes
-
-      by : (o : Option Beside) → In n (number_if test m o ++ chosen os)
-      by None = rest
-      by (Some y) = of (test y)
+      by : In n (chosen os) → (o : Option Beside) → In n (number_if test m o ++ chosen os)
+      by rest None = rest
+      by rest (Some y) = of (test y)
         where
           of : (b : Bool) → In n ((cond b (m ∷ []) []) ++ chosen os)
           of true = inr rest
@@ -158,11 +151,11 @@ module _ (slots : List (Option Held)) (table : List Interned) where
   blocks-above i (None ∷ os) told n is = omega (arith, blocks-above (i + 1) os (told-rest slots i None os told) n is)
   blocks-above i (Some m ∷ os) told n is =
       let t = told zero m refl in
-      of t.0 t.1.0 t.1.1 (subst (λ o. In n (numbers (cons_option (option_map (numbered table m) o) (blocks_in slots table os)))) t.1.0 is)
+      of t.0 t.1.0 t.1.1 (λ more. blocks-above (i + 1) os (told-rest slots i (Some m) os told) n more) (subst (λ o. In n (numbers (cons_option (option_map (numbered table m) o) (blocks_in slots table os)))) t.1.0 is)
     where
-      of : (h : Held) → slot_at slots m ≡ Some h → h.rank ≡ i + 0 → In n (m ∷ numbers (blocks_in slots table os)) → i ≤ rank_at slots n
-      of h at rank (inl e) = omega (arith, ap (rank_at slots) e, rank-is slots m h at, rank)
-      of h at rank (inr more) = omega (arith, blocks-above (i + 1) os (told-rest slots i (Some m) os told) n more)
+      of : (h : Held) → slot_at slots m ≡ Some h → h.rank ≡ i + 0 → (In n (numbers (blocks_in slots table os)) → i + 1 ≤ rank_at slots n) → In n (m ∷ numbers (blocks_in slots table os)) → i ≤ rank_at slots n
+      of h at rank rest (inl e) = omega (arith, ap (rank_at slots) e, rank-is slots m h at, rank)
+      of h at rank rest (inr more) = omega (arith, rest more)
 
   pub blocks-distinct : (i : ℕ) (os : List (Option ℕ)) → Told slots i os → AreDistinct (map (λ (b : Numbered). b.number) (blocks_in slots table os))
   blocks-distinct i [] told = tt
@@ -178,12 +171,13 @@ module _ (slots : List (Option Held)) (table : List Interned) where
   pub block-there : (os : List (Option ℕ)) (b : Numbered) → In b (blocks_in slots table os) → (m : ℕ) × ((h : Held) × ((slot_at slots m ≡ Some h) × (b ≡ numbered table m h)))
   block-there [] b is = absurd is
   block-there (None ∷ os) b is = block-there os b is
-  block-there (Some m ∷ os) b is = by (slot_at slots m) refl is
+  block-there (Some m ∷ os) b is = by (λ there. block-there os b there) (slot_at slots m) refl is
     where
-      by : (o : Option Held) → slot_at slots m ≡ o → In b (cons_option (option_map (numbered table m) o) (blocks_in slots table os)) → (k : ℕ) × ((h : Held) × ((slot_at slots k ≡ Some h) × (b ≡ numbered table k h)))
-      by None at there = block-there os b there
-      by (Some h) at (inl e) = (m, (h, (at, e)))
-      by (Some h) at (inr there) = block-there os b there
+      by : (In b (blocks_in slots table os) → (k : ℕ) × ((h : Held) × ((slot_at slots k ≡ Some h) × (b ≡ numbered table k h)))) → (o : Option Held) → slot_at slots m ≡ o
+          → In b (cons_option (option_map (numbered table m) o) (blocks_in slots table os)) → (k : ℕ) × ((h : Held) × ((slot_at slots k ≡ Some h) × (b ≡ numbered table k h)))
+      by rest None at there = rest there
+      by rest (Some h) at (inl e) = (m, (h, (at, e)))
+      by rest (Some h) at (inr there) = rest there
 
 -- ---- ranks
 
@@ -198,7 +192,49 @@ ranks-rise i [] = tt
 ranks-rise i (None ∷ os) = ranks-rise (i + 1) os
 ranks-rise i (Some n ∷ os) = (λ u is. omega (arith, ranks-above (i + 1) os u is), ranks-rise (i + 1) os)
 
+count-cons : (o : Option ℕ) (os : List (Option ℕ)) → count_by is_some (o ∷ os) ≡ cond (is_some o) 1 0 + count_by is_some os
+count-cons o os = sum_by-append (λ (p : Option ℕ). cond (is_some p) 1 0) (o ∷ []) os ∙ omega arith
+
 pub ranks-count : (i : ℕ) (os : List (Option ℕ)) → length (ranks_from i os) ≡ count_by is_some os
 ranks-count i [] = refl
 ranks-count i (None ∷ os) = ranks-count (i + 1) os ∙ omega arith
-ranks-count i (Some n ∷ os) = omega (arith, ranks-count (i + 1) os)
+ranks-count i (Some n ∷ os) = omega (arith, ranks-count (i + 1) os, count-cons (Some n) os)
+
+-- ---- the search for a rank
+
+module _ (slots : List (Option Held)) (ns : List ℕ) (rising : IsRising (map (rank_at slots) ns)) (rank : ℕ) where
+  at-map : (k : ℕ) → k < length ns → get_or (map (rank_at slots) ns) k 0 ≡ rank_at slots (get_or ns k 0)
+  at-map k below = get_or-map (rank_at slots) ns k 0 0 below
+
+  rise : (j k : ℕ) → j < k → k < length ns → rank_at slots (get_or ns j 0) < rank_at slots (get_or ns k 0)
+  rise j k less below =
+      omega (arith, rising-at (map (rank_at slots) ns) rising j k less (omega (arith, below, length-map ns (rank_at slots))), at-map j (omega (arith, less, below)), at-map k below)
+
+  -- the rank isn't before a lower one, nor after a higher one
+  pub place-from : (mid k : ℕ) → mid < length ns → rank_at slots (get_or ns mid 0) ≤ rank → k < length ns → rank_at slots (get_or ns k 0) ≡ rank → mid ≤ k
+  place-from mid k mid_below low below is =
+      elim (cases_lt k mid) [
+        | inl less ↦ absurd (omega (arith, rise k mid less mid_below, low, is))
+        | inr more ↦ more
+      ]
+
+  pub place-before : (mid k : ℕ) → mid < length ns → rank < rank_at slots (get_or ns mid 0) → k < length ns → rank_at slots (get_or ns k 0) ≡ rank → k < mid
+  place-before mid k mid_below high below is =
+      elim (cases_lt k mid) [
+        | inl less ↦ less
+        | inr more ↦
+            elim (cases_eq k mid) [
+              | inl same ↦ absurd (omega (arith, high, is, ap (λ j. rank_at slots (get_or ns j 0)) same))
+              | inr apart ↦ absurd (omega (arith, rise mid k (omega (arith, more, apart)) below, high, is))
+            ]
+      ]
+
+  -- the place that is left is that of the rank
+  pub place-found : (low high : ℕ) → In rank (map (rank_at slots) ns) → ((k : ℕ) → k < length ns → rank_at slots (get_or ns k 0) ≡ rank → (low ≤ k) × (k < high)) → high ≤ low + 1 → rank_at slots (get_or ns low 0) ≡ rank
+  place-found low high there bounds near =
+      let at = at-in (map (rank_at slots) ns) rank there in
+      let k : ℕ = at.0 in
+      let below : k < length ns = omega (arith, at.1.0, length-map ns (rank_at slots)) in
+      let is : rank_at slots (get_or ns k 0) ≡ rank = sym (at-map k below) ∙ at.1.1 in
+      let b = bounds k below is in
+      ap (λ j. rank_at slots (get_or ns j 0)) (omega (arith, b.0, b.1, near)) ∙ is

@@ -22,25 +22,27 @@ numbers-seen slots table a [] = refl
 numbers-seen slots table a (None ∷ os) = numbers-seen slots table a os
 numbers-seen slots table a (Some m ∷ os) =
     ap (λ o. number_if (λ (x : Beside). nat_eq x.archetype a) m o ++ members_of (kept slots) a os) (slot-kept slots m)
-    ∙ by (slot_at slots m)
+    ∙ by (numbers-seen slots table a os) (slot_at slots m)
   where
-    by : (o : Option Held) → number_if (λ (x : Beside). nat_eq x.archetype a) m (option_map beside o) ++ members_of (kept slots) a os ≡ numbers_in a (cons_option (option_map (numbered table m) o) (blocks_in slots table os))
-    by None = numbers-seen slots table a os
-    by (Some h) = of (nat_eq h.archetype a)
+    by : members_of (kept slots) a os ≡ numbers_in a (blocks_in slots table os) → (o : Option Held)
+        → number_if (λ (x : Beside). nat_eq x.archetype a) m (option_map beside o) ++ members_of (kept slots) a os ≡ numbers_in a (cons_option (option_map (numbered table m) o) (blocks_in slots table os))
+    by rest None = rest
+    by rest (Some h) = of (nat_eq h.archetype a)
       where
         of : (b : Bool) → (cond b (m ∷ []) []) ++ members_of (kept slots) a os ≡ map (λ (x : Numbered). x.number) (cond b (numbered table m h ∷ filter (λ (x : Numbered). nat_eq x.archetype a) (blocks_in slots table os)) (filter (λ (x : Numbered). nat_eq x.archetype a) (blocks_in slots table os)))
-        of true = ap (λ ns. m ∷ ns) (numbers-seen slots table a os)
-        of false = numbers-seen slots table a os
+        of true = ap (λ ns. m ∷ ns) rest
+        of false = rest
 
 -- the walk over the blocks
 pub walked-seen : (slots : List (Option Held)) (table : List Interned) (order : List (Option ℕ)) → walked slots order ≡ numbered_blocks (blocks_in slots table order)
 walked-seen slots table [] = refl
 walked-seen slots table (None ∷ os) = walked-seen slots table os
-walked-seen slots table (Some m ∷ os) = by (slot_at slots m)
+walked-seen slots table (Some m ∷ os) = by (walked-seen slots table os) (slot_at slots m)
   where
-    by : (o : Option Held) → cons_option (walked_slot m o) (walked slots os) ≡ numbered_blocks (cons_option (option_map (numbered table m) o) (blocks_in slots table os))
-    by None = walked-seen slots table os
-    by (Some h) = ap (λ bs. (m, h.block) ∷ bs) (walked-seen slots table os)
+    by : walked slots os ≡ numbered_blocks (blocks_in slots table os) → (o : Option Held)
+        → cons_option (walked_slot m o) (walked slots os) ≡ numbered_blocks (cons_option (option_map (numbered table m) o) (blocks_in slots table os))
+    by rest None = rest
+    by rest (Some h) = ap (λ bs. (m, h.block) ∷ bs) rest
 
 -- the rank of a block
 pub rank-seen : (slots : List (Option Held)) (table : List Interned) (n : ℕ) (h : Held) → slot_at slots n ≡ Some h → (i : ℕ) (os : List (Option ℕ)) → Told slots i os
@@ -49,13 +51,11 @@ rank-seen slots table n h there i [] told is = absurd is
 rank-seen slots table n h there i (None ∷ os) told is = rank-seen slots table n h there (i + 1) os (λ k m at. let t = told (suc k) m at in (t.0, (t.1.0, omega (arith, t.1.1)))) is
 rank-seen slots table n h there i (Some m ∷ os) told is =
     let t = told zero m refl in
-    by t.0 t.1.0 t.1.1
+    by (λ found. rank-seen slots table n h there (i + 1) os (λ k l at. let t = told (suc k) l at in (t.0, (t.1.0, omega (arith, t.1.1)))) found) t.0 t.1.0 t.1.1
   where
-    rest : OfNumber n (λ b. Unit {0}) (blocks_in slots table os) → rank_of n (blocks_in slots table os) (ranks_from (i + 1) os) ≡ h.rank
-    rest found = rank-seen slots table n h there (i + 1) os (λ k l at. let t = told (suc k) l at in (t.0, (t.1.0, omega (arith, t.1.1)))) found
-
-    by : (g : Held) → slot_at slots m ≡ Some g → g.rank ≡ i + 0 → rank_of n (cons_option (option_map (numbered table m) (slot_at slots m)) (blocks_in slots table os)) (i ∷ ranks_from (i + 1) os) ≡ h.rank
-    by g at rank =
+    by : (OfNumber n (λ b. Unit {0}) (blocks_in slots table os) → rank_of n (blocks_in slots table os) (ranks_from (i + 1) os) ≡ h.rank) → (g : Held) → slot_at slots m ≡ Some g → g.rank ≡ i + 0
+        → rank_of n (cons_option (option_map (numbered table m) (slot_at slots m)) (blocks_in slots table os)) (i ∷ ranks_from (i + 1) os) ≡ h.rank
+    by rest g at rank =
         ap (λ o. rank_of n (cons_option (option_map (numbered table m) o) (blocks_in slots table os)) (i ∷ ranks_from (i + 1) os)) at
         ∙ elim (cases_eq m n) [
           | inl same ↦

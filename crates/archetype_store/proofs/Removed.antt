@@ -3,9 +3,9 @@ use Rattle.std.proofs.Common.{Vec, Global, ◌≡◌, ◌≢◌, ℕ, zero, suc,
 use Rattle.std.specs.Prelude.{option_map, count_by, is_some, unwrap_or}
 use Rattle.std.specs.List.{cons_option, remove}
 use Rattle.std.specs.Vec.{vec_capacity}
-use Rattle.std.specs.Option.{IsSome}
-use Rattle.std.proofs.lemmas.Bool.{cases_eq, eq-eqb, ne_eqb}
-use Rattle.std.proofs.lemmas.List.{get_or-map, get_or-set_same, get_or-set_other, length-map, map-set}
+use Rattle.std.specs.Option.{IsSome, IfSome}
+use Rattle.std.proofs.lemmas.Bool.{cases_eq, eq-eqb, ne_eqb, false≢true}
+use Rattle.std.proofs.lemmas.List.{get_or-map, get_or-set_same, get_or-set_other, get_or_default, length-map, map-set}
 use Rattle.world_model.specs.Members.{In, IsRising}
 use Rattle.shared_values.specs.declared.table.Slot.{Slot as Interned}
 use Rattle.archetype_store.specs.declared.shared_parts.SharedPart.{SharedPart}
@@ -71,9 +71,18 @@ module _ (slots : List (Option Held)) (table : List Interned) (n : ℕ) (below :
   pub blocks-gone : (os : List (Option ℕ)) (r : ℕ) → slot_at os r ≡ Some n → blocks_in (set slots n None) table (set os r None) ≡ without_block n (blocks_in slots table os)
   blocks-gone os r is = blocks-empty os r is ∙ blocks-without os
 
+-- what is read of a block that is there
+pub standing : (slots copy : List (Option Held)) (n : ℕ) (h : Held) (r : ℕ × ℕ) → copy ≡ slots → slot_at slots n ≡ Some h → IfSome (slot_at copy n) (λ held. (r.0 ≡ held.archetype) × (r.1 ≡ held.rank))
+    → (r.0 ≡ h.archetype) × (r.1 ≡ h.rank)
+standing slots copy n h r same at is = subst (λ o. IfSome o (λ held. (r.0 ≡ held.archetype) × (r.1 ≡ held.rank))) (ap (λ ss. slot_at ss n) same ∙ at) is
+
+-- two readings of one place are the same
+pub same-item : (vs : List (Vec ℕ Global)) (a : ℕ) (v w : Vec ℕ Global) → a < length vs → v ≡ get_or vs a v → w ≡ get_or vs a w → v ≡ w
+same-item vs a v w below at_v at_w = at_v ∙ get_or_default vs a v w below ∙ sym at_w
+
 -- a store that loses a block
 module _ (s : Inside) (consistent : IsConsistent s) (n : ℕ) (h : Held) (there : slot_at s.slots.items n ≡ Some h) where
-  there-kept : slot_at (kept s.slots.items) n ≡ Some (beside h)
+  pub there-kept : slot_at (kept s.slots.items) n ≡ Some (beside h)
   there-kept = slot-kept s.slots.items n ∙ ap (option_map beside) there
 
   archetype-below : h.archetype < length s.archetypes.items
@@ -115,10 +124,7 @@ module _ (s : Inside) (consistent : IsConsistent s) (n : ℕ) (h : Held) (there 
     number-is k below rank = by (slot_at s.slots.items (number_at v.items k)) refl (used-at s.slots.items v.items k numbers-used below)
       where
         by : (o : Option Held) → slot_at s.slots.items (number_at v.items k) ≡ o → IsSome o → number_at v.items k ≡ n
-        by None at_none some = absurd (by_none some)
-          where
-            by_none : IsSome {A = Held} None → ⊥
-            by_none some = cc
+        by None at_none some = absurd (false≢true some)
         by (Some g) at_some some =
             let g_kept : slot_at (kept s.slots.items) (number_at v.items k) ≡ Some (beside g) = slot-kept s.slots.items (number_at v.items k) ∙ ap (option_map beside) at_some in
             let g_rank : g.rank ≡ h.rank = sym (rank-is s.slots.items (number_at v.items k) g at_some) ∙ rank in
@@ -127,15 +133,7 @@ module _ (s : Inside) (consistent : IsConsistent s) (n : ℕ) (h : Held) (there 
     pub numbers-removed : (k : ℕ) → k < length v.items → rank_at s.slots.items (number_at v.items k) ≡ h.rank → remove v.items k ≡ filter (λ m. not (nat_eq m n)) v.items
     numbers-removed k below rank = removed-is (rank_at s.slots.items) v.items k n numbers-rise below (number-is k below rank)
 
-    module _ (w : Vec ℕ Global) (left : w.items ≡ filter (λ m. not (nat_eq m n)) v.items) (table : List Interned) (held : List SharedPart) (same : held ≡ h.shared.items) (releases : Releases s.shared table held)
-        (slots : List (Option Held)) (slots_are : slots ≡ set s.slots.items n None) (free : List ℕ) (free_are : free ≡ s.free.items ++ n ∷ []) (room : ℕ) (room_is : room ≡ vec_capacity s.free)
-        (order : List (Option ℕ)) (order_is : order ≡ set s.order.items h.rank None) where
-      slots-kept : kept slots ≡ set (kept s.slots.items) n None
-      slots-kept = ap kept slots_are ∙ map-set (option_map beside) s.slots.items n None
-
-      holds : Holds s.shared table [] [] (all_ids (set (kept s.slots.items) n None))
-      holds = released s.shared table (kept s.slots.items) n (beside h) held consistent.backs there-kept same releases
-
+    module _ (w : Vec ℕ Global) (left : w.items ≡ filter (λ m. not (nat_eq m n)) v.items) where
       members-left : map (λ (u : Vec ℕ Global). u.items) (set s.members.items h.archetype w)
           ≡ set (map (λ (u : Vec ℕ Global). u.items) s.members.items) h.archetype (filter (λ m. not (nat_eq m n)) (members_at (map (λ (u : Vec ℕ Global). u.items) s.members.items) h.archetype))
       members-left =
@@ -143,29 +141,38 @@ module _ (s : Inside) (consistent : IsConsistent s) (n : ℕ) (h : Held) (there 
           ∙ ap (set (map (λ (u : Vec ℕ Global). u.items) s.members.items) h.archetype)
           (left ∙ ap (filter (λ m. not (nat_eq m n))) (ap (λ (u : Vec ℕ Global). u.items) at ∙ sym (get_or-map (λ (u : Vec ℕ Global). u.items) s.members.items h.archetype v [] members-below)))
 
-      pub orderly-removed : IsOrderly s.registry s.archetypes.items (map (λ (u : Vec ℕ Global). u.items) (set s.members.items h.archetype w)) (kept slots) free room order table
-      orderly-removed =
-          subst (λ m. IsOrderly s.registry s.archetypes.items m (kept slots) free room order table) (sym members-left)
-          (subst (λ k. IsOrderly s.registry s.archetypes.items left_members k free room order table) (sym slots-kept)
-          (subst (λ f. IsOrderly s.registry s.archetypes.items left_members (set (kept s.slots.items) n None) f room order table) (sym free_are)
-          (subst (λ r. IsOrderly s.registry s.archetypes.items left_members (set (kept s.slots.items) n None) (s.free.items ++ n ∷ []) r order table) (sym room_is)
-          (subst (λ o. IsOrderly s.registry s.archetypes.items left_members (set (kept s.slots.items) n None) (s.free.items ++ n ∷ []) (vec_capacity s.free) o table) (sym order_is)
-          (orderly-gone s.registry s.archetypes.items (map (λ (u : Vec ℕ Global). u.items) s.members.items) (kept s.slots.items) s.free.items (vec_capacity s.free) s.order.items s.shared consistent n (beside h) table there-kept holds.backs)))))
-        where
-          left_members : List (List ℕ)
-          left_members = set (map (λ (u : Vec ℕ Global). u.items) s.members.items) h.archetype (filter (λ m. not (nat_eq m n)) (members_at (map (λ (u : Vec ℕ Global). u.items) s.members.items) h.archetype))
+      module _ (table : List Interned) (held : List SharedPart) (same : held ≡ h.shared.items) (releases : Releases s.shared table held) (slots : List (Option Held)) (slots_are : slots ≡ set s.slots.items n None)
+          (free : List ℕ) (free_are : free ≡ s.free.items ++ n ∷ []) (room : ℕ) (room_is : room ≡ vec_capacity s.free) (order : List (Option ℕ)) (order_is : order ≡ set s.order.items h.rank None) where
+        left_members : List (List ℕ)
+        left_members = set (map (λ (u : Vec ℕ Global). u.items) s.members.items) h.archetype (filter (λ m. not (nat_eq m n)) (members_at (map (λ (u : Vec ℕ Global). u.items) s.members.items) h.archetype))
 
-      pub blocks-removed : blocks_in slots table order ≡ without_block n (blocks_in s.slots.items s.shared s.order.items)
-      blocks-removed =
-          ap (λ k. blocks_in k table order) slots_are ∙ ap (blocks_in (set s.slots.items n None) table) order_is
-          ∙ blocks-kept (set s.slots.items n None) s.shared table (set s.order.items h.rank None)
-          (subst (λ ids. KeepsValues s.shared table (all_ids ids)) (sym (map-set (option_map beside) s.slots.items n None)) holds.keeps)
-          ∙ blocks-gone s.slots.items s.shared n (below_of s.slots.items n h there) s.order.items h.rank placed
+        slots-kept : kept slots ≡ set (kept s.slots.items) n None
+        slots-kept = ap kept slots_are ∙ map-set (option_map beside) s.slots.items n None
 
-      pub store-removed : (store : StoreState) → view_of s ≡ store
-          → HasBlocks store (record { registry = s.registry; archetypes = s.archetypes.items; blocks = blocks_in slots table order; ranks = ranks_from 0 order }) (without_block n store.blocks)
-      store-removed store seen = record {
-        registry = ap (λ (v : StoreState). v.registry) seen;
-        archetypes = ap (λ (v : StoreState). v.archetypes) seen;
-        blocks = blocks-removed ∙ ap (λ (v : StoreState). without_block n v.blocks) seen;
-      }
+        pub orderly-removed : IsOrderly s.registry s.archetypes.items (map (λ (u : Vec ℕ Global). u.items) (set s.members.items h.archetype w)) (kept slots) free room order table
+        orderly-removed =
+            subst (λ m. IsOrderly s.registry s.archetypes.items m (kept slots) free room order table) (sym members-left)
+            (subst (λ k. IsOrderly s.registry s.archetypes.items left_members k free room order table) (sym slots-kept)
+            (subst (λ f. IsOrderly s.registry s.archetypes.items left_members (set (kept s.slots.items) n None) f room order table) (sym free_are)
+            (subst (λ r. IsOrderly s.registry s.archetypes.items left_members (set (kept s.slots.items) n None) (s.free.items ++ n ∷ []) r order table) (sym room_is)
+            (subst (λ o. IsOrderly s.registry s.archetypes.items left_members (set (kept s.slots.items) n None) (s.free.items ++ n ∷ []) (vec_capacity s.free) o table) (sym order_is)
+            (orderly-gone s.registry s.archetypes.items (map (λ (u : Vec ℕ Global). u.items) s.members.items) (kept s.slots.items) s.free.items (vec_capacity s.free) s.order.items s.shared consistent n (beside h) table there-kept
+            (released s.shared table (kept s.slots.items) n (beside h) held consistent.backs there-kept same releases).backs)))))
+
+  module _ (table : List Interned) (held : List SharedPart) (same : held ≡ h.shared.items) (releases : Releases s.shared table held) (slots : List (Option Held)) (slots_are : slots ≡ set s.slots.items n None)
+      (order : List (Option ℕ)) (order_is : order ≡ set s.order.items h.rank None) where
+    blocks-removed : blocks_in slots table order ≡ without_block n (blocks_in s.slots.items s.shared s.order.items)
+    blocks-removed =
+        ap (λ k. blocks_in k table order) slots_are ∙ ap (blocks_in (set s.slots.items n None) table) order_is
+        ∙ blocks-kept (set s.slots.items n None) s.shared table (set s.order.items h.rank None)
+        (subst (λ ids. KeepsValues s.shared table (all_ids ids)) (sym (map-set (option_map beside) s.slots.items n None))
+        (released s.shared table (kept s.slots.items) n (beside h) held consistent.backs there-kept same releases).keeps)
+        ∙ blocks-gone s.slots.items s.shared n (below_of s.slots.items n h there) s.order.items h.rank placed
+
+    pub store-removed : (store : StoreState) → view_of s ≡ store
+        → HasBlocks store (record { registry = s.registry; archetypes = s.archetypes.items; blocks = blocks_in slots table order; ranks = ranks_from 0 order }) (without_block n store.blocks)
+    store-removed store seen = record {
+      registry = ap (λ (v : StoreState). v.registry) seen;
+      archetypes = ap (λ (v : StoreState). v.archetypes) seen;
+      blocks = blocks-removed ∙ ap (λ (v : StoreState). without_block n v.blocks) seen;
+    }

@@ -24,7 +24,7 @@ of-changed n f Q P (b ∷ bs) is so = by (nat_eq b.number n) refl is (λ h. of-c
     by false apart is rest = subst (λ t. MatchBool t (Q b.block) (OfBlock n Q (with_block n f bs))) (sym apart) (rest is)
 
 module _ (s : Inside) (store : StoreState) (seen : view_of s ≡ store) (n : ℕ) (P : BlockState → Type 0) (is : OfBlock n P store.blocks) where
-  there : (h : Held) × ((slot_at s.slots.items n ≡ Some h) × P h.block)
+  pub there : (h : Held) × ((slot_at s.slots.items n ≡ Some h) × P h.block)
   there = at_number (λ b. P b.block) s.slots.items s.shared n s.order.items (subst (λ (v : StoreState). OfBlock n P v.blocks) (sym seen) is)
 
   pub number-below : n < length s.slots.items

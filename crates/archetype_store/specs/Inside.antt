@@ -92,10 +92,6 @@ AreOfArchetypes registry archetypes slots = (n : ℕ) (x : Beside) → slot_at s
 abbrev pub members_of : List (Option Beside) → ℕ → List (Option ℕ) → List ℕ
 members_of slots a order = numbers_of (λ x. nat_eq x.archetype a) slots order
 
--- no two lists of types are equal
-abbrev pub AreApart : List (List ℕ) → Type 0
-AreApart archetypes = (a b : ℕ) → a < length archetypes → b < length archetypes → types_at archetypes a ≡ types_at archetypes b → a ≡ b
-
 abbrev pub members_at : List (List ℕ) → ℕ → List ℕ
 members_at members a = slice_index_or members a []
 
