@@ -115,8 +115,8 @@ first-added a parts new (b ∷ bs) full room = by (has_room a parts b) full (λ 
 -- the numbers that are kept for an archetype
 pub members-kept : (s : Inside) (v : Vec ℕ Global) (a : ℕ) → IsConsistent s → a < length s.archetypes.items → v ≡ get_or s.members.items a v → v.items ≡ members_of (kept s.slots.items) a s.order.items
 members-kept s v a consistent below at =
-    let there : a < length s.members.items = omega (arith, below, consistent.members_there, length-map s.members.items (λ (w : Vec ℕ Global). w.items)) in
-    ap (λ (w : Vec ℕ Global). w.items) at ∙ sym (get_or-map (λ (w : Vec ℕ Global). w.items) s.members.items a v [] there) ∙ consistent.members_are a below
+    let there : a < length s.members.items = omega (arith, below, consistent.0.members_there, length-map s.members.items (λ (w : Vec ℕ Global). w.items)) in
+    ap (λ (w : Vec ℕ Global). w.items) at ∙ sym (get_or-map (λ (w : Vec ℕ Global). w.items) s.members.items a v [] there) ∙ consistent.0.members_are a below
 
 -- what a search of these numbers says of the blocks
 pub says-some : (s : Inside) (store : StoreState) (a : ℕ) (parts : List (PartOf Value)) (r : Option ℕ) → view_of s ≡ store

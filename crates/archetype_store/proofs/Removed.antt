@@ -86,19 +86,19 @@ module _ (s : Inside) (consistent : IsConsistent s) (n : ℕ) (h : Held) (there 
   there-kept = slot-kept s.slots.items n ∙ ap (option_map beside) there
 
   archetype-below : h.archetype < length s.archetypes.items
-  archetype-below = (consistent.of_archetypes n (beside h) there-kept).there
+  archetype-below = (consistent.0.of_archetypes n (beside h) there-kept).there
 
   pub members-below : h.archetype < length s.members.items
-  members-below = omega (arith, archetype-below, consistent.members_there, length-map s.members.items (λ (v : Vec ℕ Global). v.items))
+  members-below = omega (arith, archetype-below, consistent.0.members_there, length-map s.members.items (λ (v : Vec ℕ Global). v.items))
 
   placed : slot_at s.order.items h.rank ≡ Some n
-  placed = consistent.placed n (beside h) there-kept
+  placed = consistent.0.placed n (beside h) there-kept
 
   pub rank-below : h.rank < length s.order.items
   rank-below = below_of s.order.items h.rank n placed
 
   pub free-fits : length s.free.items < vec_capacity s.free
-  free-fits = omega (arith, consistent.counted, consistent.free_room, count-gone (kept s.slots.items) n (beside h) there-kept)
+  free-fits = omega (arith, consistent.0.counted, consistent.0.free_room, count-gone (kept s.slots.items) n (beside h) there-kept)
 
   module _ (v : Vec ℕ Global) (at : v ≡ get_or s.members.items h.archetype v) where
     numbers-are : v.items ≡ members_of (kept s.slots.items) h.archetype s.order.items
@@ -110,7 +110,7 @@ module _ (s : Inside) (consistent : IsConsistent s) (n : ℕ) (h : Held) (there 
     pub numbers-rise : IsRising (map (rank_at s.slots.items) v.items)
     numbers-rise =
         subst (λ ns. IsRising (map (rank_at s.slots.items) ns)) (sym numbers-are)
-        (members-rise s.slots.items (λ (x : Beside). nat_eq x.archetype h.archetype) 0 s.order.items (told-all s.slots.items s.order.items consistent.ordered))
+        (members-rise s.slots.items (λ (x : Beside). nat_eq x.archetype h.archetype) 0 s.order.items (told-all s.slots.items s.order.items consistent.0.ordered))
 
     pub rank-in : In h.rank (map (rank_at s.slots.items) v.items)
     rank-in =
@@ -128,7 +128,7 @@ module _ (s : Inside) (consistent : IsConsistent s) (n : ℕ) (h : Held) (there 
         by (Some g) at_some some =
             let g_kept : slot_at (kept s.slots.items) (number_at v.items k) ≡ Some (beside g) = slot-kept s.slots.items (number_at v.items k) ∙ ap (option_map beside) at_some in
             let g_rank : g.rank ≡ h.rank = sym (rank-is s.slots.items (number_at v.items k) g at_some) ∙ rank in
-            some_is (number_at v.items k) n (sym (consistent.placed (number_at v.items k) (beside g) g_kept) ∙ ap (slot_at s.order.items) g_rank ∙ placed)
+            some_is (number_at v.items k) n (sym (consistent.0.placed (number_at v.items k) (beside g) g_kept) ∙ ap (slot_at s.order.items) g_rank ∙ placed)
 
     pub numbers-removed : (k : ℕ) → k < length v.items → rank_at s.slots.items (number_at v.items k) ≡ h.rank → remove v.items k ≡ filter (λ m. not (nat_eq m n)) v.items
     numbers-removed k below rank = removed-is (rank_at s.slots.items) v.items k n numbers-rise below (number-is k below rank)
@@ -157,7 +157,7 @@ module _ (s : Inside) (consistent : IsConsistent s) (n : ℕ) (h : Held) (there 
             (subst (λ r. IsOrderly s.registry s.archetypes.items left_members (set (kept s.slots.items) n None) (s.free.items ++ n ∷ []) r order table) (sym room_is)
             (subst (λ o. IsOrderly s.registry s.archetypes.items left_members (set (kept s.slots.items) n None) (s.free.items ++ n ∷ []) (vec_capacity s.free) o table) (sym order_is)
             (orderly-gone s.registry s.archetypes.items (map (λ (u : Vec ℕ Global). u.items) s.members.items) (kept s.slots.items) s.free.items (vec_capacity s.free) s.order.items s.shared consistent n (beside h) table there-kept
-            (released s.shared table (kept s.slots.items) n (beside h) held consistent.backs there-kept same releases).backs)))))
+            (released s.shared table (kept s.slots.items) n (beside h) held consistent.0.backs there-kept same releases).backs)))))
 
   module _ (table : List Interned) (held : List SharedPart) (same : held ≡ h.shared.items) (releases : Releases s.shared table held) (slots : List (Option Held)) (slots_are : slots ≡ set s.slots.items n None)
       (order : List (Option ℕ)) (order_is : order ≡ set s.order.items h.rank None) where
@@ -166,7 +166,7 @@ module _ (s : Inside) (consistent : IsConsistent s) (n : ℕ) (h : Held) (there 
         ap (λ k. blocks_in k table order) slots_are ∙ ap (blocks_in (set s.slots.items n None) table) order_is
         ∙ blocks-kept (set s.slots.items n None) s.shared table (set s.order.items h.rank None)
         (subst (λ ids. KeepsValues s.shared table (all_ids ids)) (sym (map-set (option_map beside) s.slots.items n None))
-        (released s.shared table (kept s.slots.items) n (beside h) held consistent.backs there-kept same releases).keeps)
+        (released s.shared table (kept s.slots.items) n (beside h) held consistent.0.backs there-kept same releases).keeps)
         ∙ blocks-gone s.slots.items s.shared n (below_of s.slots.items n h there) s.order.items h.rank placed
 
     pub store-removed : (store : StoreState) → view_of s ≡ store

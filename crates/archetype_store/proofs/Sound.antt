@@ -18,11 +18,11 @@ use Rattle.archetype_store.proofs.Ranks.{block-there, blocks-distinct, ranks-cou
 
 module _ (s : Inside) (consistent : IsConsistent s) where
   seen-length : length (blocks_in s.slots.items s.shared s.order.items) ≡ count_by is_some s.order.items
-  seen-length = blocks-count s.slots.items s.shared s.order.items (order-there s.slots.items s.order.items consistent.ordered)
+  seen-length = blocks-count s.slots.items s.shared s.order.items (order-there s.slots.items s.order.items consistent.0.ordered)
 
   of-store : (m : ℕ) (h : Held) → slot_at s.slots.items m ≡ Some h → IsOfStore (view_of s) (numbered s.shared m h)
   of-store m h at =
-      let of : IsOfArchetype (unwrap_or s.registry []) s.archetypes.items (beside h) = consistent.of_archetypes m (beside h) (slot-kept s.slots.items m ∙ ap (option_map beside) at) in
+      let of : IsOfArchetype (unwrap_or s.registry []) s.archetypes.items (beside h) = consistent.0.of_archetypes m (beside h) (slot-kept s.slots.items m ∙ ap (option_map beside) at) in
       record {
         there = of.there;
         types = of.types;
@@ -33,14 +33,14 @@ module _ (s : Inside) (consistent : IsConsistent s) where
 
   pub is-store : IsStore (view_of s)
   is-store = record {
-    numbers = blocks-distinct s.slots.items s.shared 0 s.order.items (told-all s.slots.items s.order.items consistent.ordered);
+    numbers = blocks-distinct s.slots.items s.shared 0 s.order.items (told-all s.slots.items s.order.items consistent.0.ordered);
     blocks = λ b is.
         let found = block-there s.slots.items s.shared s.order.items b is in
         subst (IsOfStore (view_of s)) (sym found.1.1.1) (of-store found.0 found.1.0 found.1.1.0);
-    apart = consistent.distinct;
-    fit = consistent.fit;
+    apart = consistent.0.distinct;
+    fit = consistent.0.fit;
     ranked = ranks-count 0 s.order.items ∙ sym seen-length;
     rising = ranks-rise 0 s.order.items;
-    few = omega (arith, seen-length, consistent.order_counted, consistent.counted, consistent.few);
-    registered = consistent.registered;
+    few = omega (arith, seen-length, consistent.0.order_counted, consistent.0.counted, consistent.0.few);
+    registered = consistent.0.registered;
   }

@@ -25,7 +25,7 @@ invariant_of-self c =
     let t = c.take_room.new in
     orderly-room s c.self.invariant c.a.inside.0 t.members c.index_mut.result.now (c.take_room.ensures.members_stay ∙ ap (λ (v : Vec ℕ Global). v.items) c.index_mut.ensures.value)
     t.slots.items c.take_room.ensures.slots_stay t.free.items c.take_room.ensures.free_stay (vec_capacity t.free) c.take_room.ensures.free_capacity t.order.items c.take_room.ensures.order_stays
-    s.shared c.self.invariant.backs
+    s.shared c.self.invariant.0.backs
 
 pub invariant_of-self-in_err-held : goal.invariant_of-self-in_err-held
 invariant_of-self-in_err-held c =
@@ -33,7 +33,7 @@ invariant_of-self-in_err-held c =
     let t = c.take_room.new in
     orderly-room s c.self.invariant c.a.inside.0 t.members c.index_mut.result.now (c.take_room.ensures.members_stay ∙ ap (λ (v : Vec ℕ Global). v.items) c.index_mut.ensures.value)
     t.slots.items c.take_room.ensures.slots_stay t.free.items c.take_room.ensures.free_stay (vec_capacity t.free) c.take_room.ensures.free_capacity t.order.items c.take_room.ensures.order_stays
-    c.new_held.new.table (c.in_err-held.ensures.err (all_ids (kept s.slots.items)) c.self.invariant.backs).backs
+    c.new_held.new.table (c.in_err-held.ensures.err (all_ids (kept s.slots.items)) c.self.invariant.0.backs).backs
 
 on_err : {X : Type 0} (r : Result X Memory) (P : Type 0) → P → OnErr r P
 on_err (Ok x) P p = tt
@@ -47,7 +47,7 @@ returns-in_err-held-clause-err c =
     (ap (λ slots. record { registry = s.registry; archetypes = s.archetypes.items; blocks = blocks_in slots c.new_held.new.table t.order.items; ranks = ranks_from 0 t.order.items }) c.take_room.ensures.slots_stay
     ∙ ap (λ order. record { registry = s.registry; archetypes = s.archetypes.items; blocks = blocks_in s.slots.items c.new_held.new.table order; ranks = ranks_from 0 order }) c.take_room.ensures.order_stays
     ∙ ap (λ bs. record { registry = s.registry; archetypes = s.archetypes.items; blocks = bs; ranks = ranks_from 0 s.order.items })
-    (blocks-kept s.slots.items s.shared c.new_held.new.table s.order.items (c.in_err-held.ensures.err (all_ids (kept s.slots.items)) c.self.invariant.backs).keeps)
+    (blocks-kept s.slots.items s.shared c.new_held.new.table s.order.items (c.in_err-held.ensures.err (all_ids (kept s.slots.items)) c.self.invariant.0.backs).keeps)
     ∙ c.self.view_is)
 
 pub put-number-requires-clause-few : goal.put-number-requires-clause-few
@@ -58,11 +58,11 @@ put-number-requires-clause-few c none =
       arith,
       ap length c.take_room.ensures.slots_stay,
       ap length (sym c.take_room.ensures.free_stay ∙ none),
-      c.self.invariant.counted,
-      c.self.invariant.order_counted,
+      c.self.invariant.0.counted,
+      c.self.invariant.0.order_counted,
       blocks,
       c.requires.few,
-      blocks-count s.slots.items s.shared s.order.items (order-there s.slots.items s.order.items c.self.invariant.ordered),
+      blocks-count s.slots.items s.shared s.order.items (order-there s.slots.items s.order.items c.self.invariant.0.ordered),
       length-kept s.slots.items,
     )
 
@@ -70,12 +70,12 @@ pub put-number-requires-clause-are_free : goal.put-number-requires-clause-are_fr
 put-number-requires-clause-are_free c =
     let s = c.self.inside in
     subst (λ slots. AreFree slots c.take_room.new.free.items) (sym c.take_room.ensures.slots_stay)
-    (subst (AreFree s.slots.items) (sym c.take_room.ensures.free_stay) (kept-free s.slots.items s.free.items c.self.invariant.are_free))
+    (subst (AreFree s.slots.items) (sym c.take_room.ensures.free_stay) (kept-free s.slots.items s.free.items c.self.invariant.0.are_free))
 
 pub put-number-requires-clause-bound : goal.put-number-requires-clause-bound
 put-number-requires-clause-bound c =
     let s = c.self.inside in
-    omega (arith, ap length c.take_room.ensures.slots_stay, c.self.invariant.few, length-kept s.slots.items)
+    omega (arith, ap length c.take_room.ensures.slots_stay, c.self.invariant.0.few, length-kept s.slots.items)
 
 pub invariant_of-self-2 : goal.invariant_of-self-2
 invariant_of-self-2 c =
@@ -92,7 +92,7 @@ invariant_of-self-2 c =
     let new : kept c.put-number.new.slots.items ≡ put_slot old n (beside h) = ap kept slots ∙ kept-put s.slots.items n h in
     let last : h.rank ≡ length s.order.items = omega (arith, c.in_ok-held.ensures.rank, c.len-rank.ensures, c.take_room.new.order.ok.0, ap length c.take_room.ensures.order_stays) in
     let below : a < length s.archetypes.items = subst (λ k. k < length s.archetypes.items) (sym c.a.view_is) (subst (λ (v : StoreState). c.args.a < length v.archetypes) (sym c.self.view_is) c.requires.there) in
-    let below_members : a < length s.members.items = omega (arith, below, c.self.invariant.members_there, length-map s.members.items (λ (v : Vec ℕ Global). v.items)) in
+    let below_members : a < length s.members.items = omega (arith, below, c.self.invariant.0.members_there, length-map s.members.items (λ (v : Vec ℕ Global). v.items)) in
     let types : c.index-types.result.now ≡ types_at s.archetypes.items a = c.index-types.ensures ∙ sym (get_or_default s.archetypes.items a [] c.index-types.result.now below) in
     let asked : map (λ p. part_type (seen_part p)) c.args.shared.now ≡ shared_types registry (types_at s.archetypes.items a) =
     subst (λ k. map (λ p. part_type (seen_part p)) c.args.shared.now ≡ shared_types registry (types_at s.archetypes.items k)) (sym c.a.view_is)
@@ -113,7 +113,7 @@ invariant_of-self-2 c =
     (omega (arith, c.put-number.ensures.count, ap length c.take_room.ensures.slots_stay, ap length c.take_room.ensures.free_stay, length-kept s.slots.items, length-kept c.put-number.new.slots.items, ap length new))
     (omega (arith, length-put-most old n (beside h), length-kept s.slots.items, ap length c.take_room.ensures.slots_stay, c.in_ok-take_room.ensures.free_room, c.put-number.ensures.free_capacity))
     (omega (arith, c.put-number.ensures.bound, length-kept c.put-number.new.slots.items, ap length new))
-    (c.in_ok-held.ensures.held (all_ids old) c.self.invariant.backs).backs in
+    (c.in_ok-held.ensures.held (all_ids old) c.self.invariant.0.backs).backs in
     subst (λ m. IsOrderly s.registry s.archetypes.items m (kept c.put-number.new.slots.items) c.put-number.new.free.items (vec_capacity c.put-number.new.free) c.push_reserved.new.self.items c.new_held.new.table)
     (ap (λ k. set members k (members_at members k ++ n ∷ [])) c.in_ok-held.ensures.archetype ∙ sym lists)
     (subst (λ k. IsOrderly s.registry s.archetypes.items (set members h.archetype (members_at members h.archetype ++ n ∷ [])) k c.put-number.new.free.items (vec_capacity c.put-number.new.free) c.push_reserved.new.self.items c.new_held.new.table)
@@ -146,8 +146,8 @@ returns-clause-ok c =
     let blocks : blocks_in c.put-number.new.slots.items c.new_held.new.table c.push_reserved.new.self.items ≡ c.args.self.now.blocks ++ new_numbered c.args.self.now c.args.a parts n ∷ [] =
     ap (λ sl. blocks_in sl c.new_held.new.table c.push_reserved.new.self.items) slots
     ∙ ap (blocks_in (put_slot s.slots.items n h) c.new_held.new.table) order
-    ∙ blocks-put s.slots.items s.shared c.new_held.new.table s.order.items n h vacant within (order-there s.slots.items s.order.items c.self.invariant.ordered)
-    (c.in_ok-held.ensures.held (all_ids (kept s.slots.items)) c.self.invariant.backs).keeps
+    ∙ blocks-put s.slots.items s.shared c.new_held.new.table s.order.items n h vacant within (order-there s.slots.items s.order.items c.self.invariant.0.ordered)
+    (c.in_ok-held.ensures.held (all_ids (kept s.slots.items)) c.self.invariant.0.backs).keeps
     ∙ ap (λ (v : StoreState). v.blocks ++ numbered c.new_held.new.table n h ∷ []) c.self.view_is
     ∙ ap (λ b. c.args.self.now.blocks ++ b ∷ []) numbered_is in
     record {
@@ -155,5 +155,5 @@ returns-clause-ok c =
       new_number = subst (λ (v : StoreState). list_any (λ b. nat_eq b.number n) v.blocks ≡ false) c.self.view_is (number-new s.slots.items s.shared s.order.items n vacant);
       room =
           subst (λ (v : StoreState). 0 < capacity (registry_of v) (types_at v.archetypes c.args.a)) c.self.view_is
-          (subst (λ k. 0 < capacity registry (types_at s.archetypes.items k)) c.a.view_is (c.self.invariant.fit a below));
+          (subst (λ k. 0 < capacity registry (types_at s.archetypes.items k)) c.a.view_is (c.self.invariant.0.fit a below));
     }

@@ -15,5 +15,5 @@ pub returns : goal.returns
 returns c =
     let s = c.self.inside in
     sym (rank-seen s.slots.items s.shared c.args.number c.held_at.result.now (sym (ap (λ slots. slot_at slots c.args.number) c.deref.ensures.value) ∙ c.held_at.ensures) 0 s.order.items
-    (told-all s.slots.items s.order.items c.self.invariant.ordered) (subst (λ (v : StoreState). OfNumber c.args.number (λ b. Unit {0}) v.blocks) (sym c.self.view_is) c.requires))
+    (told-all s.slots.items s.order.items c.self.invariant.0.ordered) (subst (λ (v : StoreState). OfNumber c.args.number (λ b. Unit {0}) v.blocks) (sym c.self.view_is) c.requires))
     ∙ ap (λ (v : StoreState). rank_of c.args.number v.blocks v.ranks) c.self.view_is

@@ -87,7 +87,7 @@ pub release_all-requires : goal.release_all-requires
 release_all-requires c =
     let s = c.self.inside in
     subst (λ ps. Backs s.shared (ids_of ps)) (sym c.deref-4.ensures.value)
-    (backs-one s.shared (kept s.slots.items) c.args.number (beside c.take_out-held.result) c.self.invariant.backs (slot-kept s.slots.items c.args.number ∙ ap (option_map beside) c.take_out-held.ensures.held))
+    (backs-one s.shared (kept s.slots.items) c.args.number (beside c.take_out-held.result) c.self.invariant.0.backs (slot-kept s.slots.items c.args.number ∙ ap (option_map beside) c.take_out-held.ensures.held))
 
 pub invariant_of-self : goal.invariant_of-self
 invariant_of-self c =

@@ -21,7 +21,7 @@ values_in-requires-clause-backs c =
     let s = c.self.inside in
     let at = sym (ap (λ slots. slot_at slots c.args.number) c.deref.ensures.value) ∙ c.held_at.ensures in
     subst (λ ps. Backs s.shared (ids_of ps)) (sym c.deref-2.ensures.value)
-    (backs-one s.shared (kept s.slots.items) c.args.number (beside c.held_at.result.now) c.self.invariant.backs (slot-kept s.slots.items c.args.number ∙ ap (option_map beside) at))
+    (backs-one s.shared (kept s.slots.items) c.args.number (beside c.held_at.result.now) c.self.invariant.0.backs (slot-kept s.slots.items c.args.number ∙ ap (option_map beside) at))
 
 pub values_in-requires-clause-there : goal.values_in-requires-clause-there
 values_in-requires-clause-there c =
