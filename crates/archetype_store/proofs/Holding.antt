@@ -1,12 +1,12 @@
 -- What holding and releasing an id does to the ids that are held.
-use Rattle.std.proofs.Common.{◌≡◌, ◌≢◌, ◌⊎◌, ℕ, ◌+◌, ◌-◌, ◌<◌, ◌≤◌, min, inl, inr, Bool, true, false, cond, nat_eq, List, [], ◌∷◌, ◌++◌, length, map, refl, sym, ap, ◌∙◌, subst, append_assoc, arith}
-use Rattle.std.proofs.lemmas.Bool.{cases_eq, eqb-true, eq-eqb, ne_eqb}
+use Rattle.std.proofs.Common.{◌≡◌, ◌≢◌, ℕ, ◌+◌, ◌-◌, ◌≤◌, min, inl, inr, true, cond, nat_eq, List, [], ◌∷◌, ◌++◌, refl, sym, ap, ◌∙◌, subst, append_assoc, arith}
+use Rattle.std.proofs.lemmas.Bool.{cases_eq, eq-eqb, ne_eqb}
 use Rattle.ent_types.specs.declared.value.Value.{Value}
-use Rattle.world_model.specs.Members.{In, tally, one_if}
+use Rattle.world_model.specs.Members.{In, one_if}
 use Rattle.world_model.specs.Part.{PartOf}
 use Rattle.shared_values.specs.declared.table.Slot.{Slot}
 use Rattle.shared_values.specs.declared.table.TheConstants.{MOST_HOLDS}
-use Rattle.shared_values.specs.Holds.{slot_at, vacant, holds_of, values_of, type_of, IsHeld, IsIdFor, ChangesTo, held_once_more, held_once_less}
+use Rattle.shared_values.specs.Holds.{slot_at, vacant, holds_of, values_of, IsHeld, IsIdFor, ChangesTo, held_once_more, held_once_less}
 use Rattle.archetype_store.specs.Holding.{Backs, KeepsValues, Holds, Releases, ids_of, parts_of, part_of}
 use Rattle.archetype_store.specs.Times.{times}
 use Rattle.archetype_store.proofs.Times.{times-append}

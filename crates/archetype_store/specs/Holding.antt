@@ -1,5 +1,5 @@
 -- Ids of shared values that blocks hold.
-use Rattle.std.specs.Prelude.{ℕ, ◌≡◌, ◌<◌, ◌≤◌, ◌+◌, min, nat_eq, List, [], ◌∷◌, ◌++◌, map}
+use Rattle.std.specs.Prelude.{ℕ, ◌≡◌, ◌≤◌, min, List, [], ◌++◌, map}
 use Rattle.ent_types.specs.declared.value.Value.{Value}
 use Rattle.world_model.specs.Members.{In}
 use Rattle.world_model.specs.Part.{PartOf}
