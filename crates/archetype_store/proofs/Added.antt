@@ -1,8 +1,7 @@
 -- A store with one block more, and with one block less.
-use Rattle.std.proofs.Common.{Vec, Global, get_or, zero, suc, ◌≡◌, ◌≢◌, ℕ, ◌+◌, ◌<◌, ◌≤◌, min, inl, inr, Bool, true, false, not, ◌||◌, ◌&&◌, cond, nat_eq, nat_lt, List, [], ◌∷◌, ◌++◌, length, set, map, filter, Option, Some, None, refl, sym, ap, ◌∙◌, subst, arith}
+use Rattle.std.proofs.Common.{Vec, Global, get_or, zero, suc, ◌≡◌, ◌≢◌, ℕ, ◌+◌, ◌<◌, ◌≤◌, inl, inr, Bool, false, not, ◌||◌, cond, nat_eq, List, [], ◌∷◌, ◌++◌, length, set, map, filter, Option, Some, None, refl, sym, ap, ◌∙◌, subst, arith}
 use Rattle.std.specs.Prelude.{option_map, count_by, is_some, unwrap_or}
-use Rattle.std.specs.Cmp.Lexicographic.{pointwise}
-use Rattle.std.proofs.lemmas.Bool.{false≢true, cases_eq, cases_lt, lt-ltb, le-ltb, eq-eqb, ne_eqb}
+use Rattle.std.proofs.lemmas.Bool.{cases_eq, cases_lt, lt-ltb, le-ltb, eq-eqb, ne_eqb}
 use Rattle.std.proofs.lemmas.List.{get_or-set_same, get_or-set_other, length-set, length-map, length-append, map-set, map-append, append-nil, get_or-map}
 use Rattle.std.proofs.Math.Seq.{map-set_same}
 use Rattle.std.specs.List.{cons_option, list_any}
@@ -20,12 +19,11 @@ use Rattle.world_model.specs.World.{capacity}
 use Rattle.shared_values.specs.declared.table.Slot.{Slot as Interned}
 use Rattle.archetype_store.specs.declared.numbers.TheConstants.{MOST_NUMBERS}
 use Rattle.archetype_store.specs.declared.slots.Held.{Held}
-use Rattle.archetype_store.specs.Times.{times}
 use Rattle.archetype_store.specs.Holding.{Backs, KeepsValues, ids_of, parts_of}
 use Rattle.world_model.specs.Members.{In}
 use Rattle.archetype_store.specs.declared.store.ArchetypeStore.TheInside.{Inside}
 use Rattle.archetype_store.proofs.Holding.{in-left, in-right, parts-kept-by}
-use Rattle.archetype_store.specs.Slots.{of_slot, slot_at, put_slot, free_at, AreFree, AreOrdered, IsFreeAt, number_if, numbers_of}
+use Rattle.archetype_store.specs.Slots.{of_slot, slot_at, put_slot, free_at, AreFree, AreOrdered, number_if, numbers_of}
 use Rattle.archetype_store.specs.Stores.{AreApart, types_at, shared_types}
 use Rattle.archetype_store.specs.Inside.{Beside, beside, kept, all_ids, members_at, members_of, IsOfArchetype, IsOrderly, IsConsistent, numbered, numbered_at, blocks_in}
 use Rattle.archetype_store.proofs.Times.{times-append}

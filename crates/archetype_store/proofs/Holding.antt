@@ -1,8 +1,8 @@
 -- What holding and releasing an id does to the ids that are held.
-use Rattle.std.proofs.Common.{◌≡◌, ◌≢◌, ◌⊎◌, ℕ, ◌+◌, ◌-◌, ◌<◌, ◌≤◌, min, inl, inr, Bool, true, false, cond, nat_eq, List, [], ◌∷◌, ◌++◌, length, map, refl, sym, ap, ◌∙◌, subst, append_assoc, arith}
-use Rattle.std.proofs.lemmas.Bool.{cases_eq, eqb-true, eq-eqb, ne_eqb}
+use Rattle.std.proofs.Common.{◌≡◌, ◌≢◌, ℕ, ◌+◌, ◌-◌, ◌≤◌, min, inl, inr, true, cond, nat_eq, List, [], ◌∷◌, ◌++◌, refl, sym, ap, ◌∙◌, subst, append_assoc, arith}
+use Rattle.std.proofs.lemmas.Bool.{cases_eq, eq-eqb, ne_eqb}
 use Rattle.ent_types.specs.declared.value.Value.{Value}
-use Rattle.world_model.specs.Members.{In, tally, one_if}
+use Rattle.world_model.specs.Members.{In, one_if}
 use Rattle.world_model.specs.Part.{PartOf}
 use Rattle.shared_values.specs.declared.key.Key.{Key}
 use Rattle.shared_values.specs.declared.table.Slot.{Slot}

@@ -1,10 +1,10 @@
 -- A block that lost its last row goes.
-use Rattle.std.proofs.Common.{◌≡◌, ◌≢◌, ℕ, ◌<◌, inl, inr, Bool, true, false, not, cond, nat_eq, ◌&&◌, List, [], ◌∷◌, length, map, filter, refl, sym, ap, ◌∙◌, subst, arith}
+use Rattle.std.proofs.Common.{◌≡◌, ◌≢◌, ℕ, inl, inr, Bool, true, false, not, cond, nat_eq, ◌&&◌, List, [], ◌∷◌, length, map, filter, refl, sym, ap, ◌∙◌, subst}
 use Rattle.std.specs.Bool.{MatchBool}
 use Rattle.std.proofs.lemmas.Bool.{cases_eq, eq-eqb, ne_eqb}
 use Rattle.world_model.specs.Members.{In, AreDistinct}
 use Rattle.chunk_block.specs.Blocks.{BlockState}
-use Rattle.archetype_store.specs.Stores.{Numbered, OfBlock, OfNumber, is_emptied, without_block}
+use Rattle.archetype_store.specs.Stores.{Numbered, OfBlock, is_emptied, without_block}
 
 abbrev keep : ℕ → Numbered → Bool
 keep n b = not (is_emptied n b)

@@ -1,5 +1,5 @@
 -- Blocks in block order have rising ranks.
-use Rattle.std.proofs.Common.{◌≡◌, ◌≢◌, ◌⊎◌, ℕ, zero, suc, ◌+◌, ◌<◌, ◌≤◌, inl, inr, Bool, true, false, not, cond, nat_eq, List, [], ◌∷◌, ◌++◌, length, get_or, map, filter, take, drop, Option, Some, None, refl, sym, ap, ◌∙◌, subst, arith}
+use Rattle.std.proofs.Common.{◌≡◌, ◌≢◌, ℕ, zero, suc, ◌+◌, ◌<◌, ◌≤◌, inl, inr, Bool, true, false, not, cond, nat_eq, List, [], ◌∷◌, ◌++◌, length, get_or, map, filter, Option, Some, None, refl, sym, ap, ◌∙◌, subst, arith}
 use Rattle.std.specs.Prelude.{option_map, unwrap_or, count_by, is_some}
 use Rattle.std.specs.List.{cons_option, remove}
 use Rattle.std.specs.Option.{IsSome}
@@ -11,7 +11,7 @@ use Rattle.shared_values.specs.declared.table.Slot.{Slot as Interned}
 use Rattle.archetype_store.specs.declared.slots.Held.{Held}
 use Rattle.archetype_store.specs.Slots.{slot_at, AreOrdered, number_if, number_of, numbers_of}
 use Rattle.archetype_store.specs.Stores.{Numbered}
-use Rattle.archetype_store.specs.Inside.{AreUsed, Beside, beside, kept, numbered, blocks_in, number_at, rank_at, ranks_from}
+use Rattle.archetype_store.specs.Inside.{AreUsed, Beside, beside, kept, numbered, blocks_in, rank_at, ranks_from}
 use Rattle.archetype_store.proofs.Orders.{some_is, none_some}
 use Rattle.archetype_store.proofs.Views.{slot-kept}
 use Rattle.archetype_store.proofs.Added.{order-there}

@@ -1,18 +1,17 @@
 -- What is read of a block by its number.
-use Rattle.std.proofs.Common.{◌≡◌, ◌≢◌, ℕ, zero, suc, ◌+◌, ◌<◌, inl, inr, Bool, true, false, cond, nat_eq, List, [], ◌∷◌, ◌++◌, length, map, filter, Option, Some, None, refl, sym, ap, ◌∙◌, subst, arith}
+use Rattle.std.proofs.Common.{◌≡◌, ℕ, zero, suc, ◌+◌, inl, inr, Bool, true, false, cond, nat_eq, List, [], ◌∷◌, ◌++◌, map, filter, Option, Some, None, refl, sym, ap, ◌∙◌, subst, arith}
 use Rattle.std.specs.Prelude.{option_map}
 use Rattle.std.specs.Bool.{MatchBool}
 use Rattle.std.specs.Option.{IsSome}
 use Rattle.std.specs.List.{cons_option}
 use Rattle.std.proofs.lemmas.Bool.{cases_eq, eq-eqb, ne_eqb}
-use Rattle.chunk_block.specs.Blocks.{BlockState}
 use Rattle.shared_values.specs.declared.table.Slot.{Slot as Interned}
 use Rattle.archetype_store.specs.declared.slots.Held.{Held}
 use Rattle.archetype_store.specs.declared.store.ArchetypeStore.TheInside.{Inside}
 use Rattle.archetype_store.specs.Slots.{slot_at, number_if}
 use Rattle.archetype_store.specs.Stores.{Numbered, StoreState, OfNumber, numbered_blocks, numbers_in, rank_of}
 use Rattle.archetype_store.specs.Inside.{Beside, beside, kept, members_of, numbered, blocks_in, ranks_from, view_of, walked, walked_slot}
-use Rattle.archetype_store.proofs.Orders.{some_is, none_some}
+use Rattle.archetype_store.proofs.Orders.{some_is}
 use Rattle.archetype_store.proofs.Views.{slot-kept, at_number, for_number}
 use Rattle.archetype_store.proofs.Ranks.{Told}
 

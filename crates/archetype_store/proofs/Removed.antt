@@ -1,6 +1,6 @@
 -- A store without one of its blocks.
-use Rattle.std.proofs.Common.{Vec, Global, ◌≡◌, ◌≢◌, ℕ, zero, suc, ◌+◌, ◌<◌, ◌≤◌, inl, inr, Bool, true, false, not, cond, nat_eq, List, [], ◌∷◌, ◌++◌, length, get_or, set, map, filter, Option, Some, None, refl, sym, ap, ◌∙◌, subst, arith}
-use Rattle.std.specs.Prelude.{option_map, count_by, is_some, unwrap_or}
+use Rattle.std.proofs.Common.{Vec, Global, ◌≡◌, ◌≢◌, ℕ, zero, suc, ◌+◌, ◌<◌, inl, inr, not, cond, nat_eq, List, [], ◌∷◌, ◌++◌, length, get_or, set, map, filter, Option, Some, None, refl, sym, ap, ◌∙◌, subst, arith}
+use Rattle.std.specs.Prelude.{option_map}
 use Rattle.std.specs.List.{cons_option, remove}
 use Rattle.std.specs.Vec.{vec_capacity}
 use Rattle.std.specs.Option.{IsSome, IfSome}
@@ -18,9 +18,9 @@ use Rattle.archetype_store.specs.Stores.{Numbered, StoreState, HasBlocks, withou
 use Rattle.archetype_store.specs.Inside.{AreUsed, Beside, beside, kept, all_ids, members_at, members_of, numbered, numbered_at, blocks_in, ranks_from, rank_at, number_at, view_of, IsOrderly, IsConsistent}
 use Rattle.archetype_store.proofs.Times.{times-append}
 use Rattle.archetype_store.proofs.Holding.{backs-count}
-use Rattle.archetype_store.proofs.Orders.{some_is, none_some, below_of, count-gone, times-gone}
+use Rattle.archetype_store.proofs.Orders.{some_is, below_of, count-gone, times-gone}
 use Rattle.archetype_store.proofs.Views.{slot-kept}
-use Rattle.archetype_store.proofs.Added.{blocks-kept, length-kept, orderly-gone}
+use Rattle.archetype_store.proofs.Added.{blocks-kept, orderly-gone}
 use Rattle.archetype_store.proofs.Found.{used-members, members-kept}
 use Rattle.archetype_store.proofs.Ranks.{used-at, in-map, member-in, members-rise, rank-is, removed-is, told-all}
 
@@ -143,7 +143,7 @@ module _ (s : Inside) (consistent : IsConsistent s) (n : ℕ) (h : Held) (there 
 
       module _ (table : List Interned) (held : List SharedPart) (same : held ≡ h.shared.items) (releases : Releases s.shared table held) (slots : List (Option Held)) (slots_are : slots ≡ set s.slots.items n None)
           (free : List ℕ) (free_are : free ≡ s.free.items ++ n ∷ []) (room : ℕ) (room_is : room ≡ vec_capacity s.free) (order : List (Option ℕ)) (order_is : order ≡ set s.order.items h.rank None) where
-        left_members : List (List ℕ)
+        abbrev left_members : List (List ℕ)
         left_members = set (map (λ (u : Vec ℕ Global). u.items) s.members.items) h.archetype (filter (λ m. not (nat_eq m n)) (members_at (map (λ (u : Vec ℕ Global). u.items) s.members.items) h.archetype))
 
         slots-kept : kept slots ≡ set (kept s.slots.items) n None

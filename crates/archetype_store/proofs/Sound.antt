@@ -1,17 +1,13 @@
 -- What always holds of a store, as contracts see it.
-use Rattle.std.proofs.Common.{Vec, Global, ◌≡◌, ℕ, ◌+◌, ◌<◌, ◌≤◌, List, [], ◌∷◌, length, map, Option, Some, None, refl, sym, ap, ◌∙◌, subst, arith}
+use Rattle.std.proofs.Common.{◌≡◌, ℕ, [], length, Some, sym, ap, ◌∙◌, subst, arith}
 use Rattle.std.specs.Prelude.{option_map, count_by, is_some, unwrap_or}
-use Rattle.ent_types.specs.declared.type_info.TypeInfo.{TypeInfo}
-use Rattle.world_model.specs.Members.{In}
-use Rattle.world_model.specs.Part.{part_type}
 use Rattle.world_model.specs.World.{capacity}
-use Rattle.block_columns.specs.declared.shape.TypeShape.{TypeShape}
-use Rattle.chunk_block.specs.Blocks.{BlockType, new_types}
+use Rattle.chunk_block.specs.Blocks.{new_types}
 use Rattle.archetype_store.specs.declared.slots.Held.{Held}
 use Rattle.archetype_store.specs.declared.store.ArchetypeStore.TheInside.{Inside}
 use Rattle.archetype_store.specs.Slots.{slot_at}
-use Rattle.archetype_store.specs.Stores.{Numbered, StoreState, IsOfStore, IsStore, types_at, shared_types, shape_list}
-use Rattle.archetype_store.specs.Inside.{Beside, beside, kept, numbered, blocks_in, ranks_from, view_of, IsOfArchetype, IsConsistent}
+use Rattle.archetype_store.specs.Stores.{IsOfStore, IsStore, shared_types, shape_list}
+use Rattle.archetype_store.specs.Inside.{beside, numbered, blocks_in, view_of, IsOfArchetype, IsConsistent}
 use Rattle.archetype_store.proofs.Views.{slot-kept}
 use Rattle.archetype_store.proofs.Added.{blocks-count, order-there, types-of-parts}
 use Rattle.archetype_store.proofs.Ranks.{block-there, blocks-distinct, ranks-count, ranks-rise, told-all}

@@ -1,7 +1,6 @@
 -- That `==` of values is the model's.
-use Rattle.std.proofs.Common.{◌≡◌, ℤ, Bool, List, [], ◌∷◌, ◌&&◌, refl, ap, ◌∙◌}
+use Rattle.std.proofs.Common.{◌≡◌, List, [], ◌∷◌, ◌&&◌, refl, ap, ◌∙◌}
 use Rattle.std.specs.Cmp.Lexicographic.{pointwise}
-use Rattle.ent_types.specs.declared.entity.Entity.{Entity}
 use Rattle.ent_types.specs.declared.value.Value.{Value}
 use Rattle.ent_types.specs.declared.value.Value.TheVariants.{Int, Ref}
 use Rattle.ent_types.specs.contracts.value.ValuePartialEq.TheImpl as value_eq

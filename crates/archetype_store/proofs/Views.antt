@@ -1,9 +1,9 @@
 -- A store's blocks as they are kept and as contracts see them.
-use Rattle.std.proofs.Common.{◌≡◌, ◌≢◌, ℕ, ◌<◌, ◌≤◌, inl, inr, Bool, true, false, cond, nat_eq, List, [], ◌∷◌, ◌++◌, length, set, map, Option, Some, None, refl, sym, ap, ◌∙◌, subst, arith}
+use Rattle.std.proofs.Common.{◌≡◌, ◌≢◌, ℕ, inl, inr, cond, nat_eq, List, [], ◌∷◌, length, set, Option, Some, None, refl, sym, ap, ◌∙◌, subst, arith}
 use Rattle.std.specs.Prelude.{option_map}
 use Rattle.std.specs.Bool.{MatchBool}
-use Rattle.std.specs.List.{filter_map, cons_option}
-use Rattle.std.proofs.lemmas.Bool.{cases_eq, cases_lt, eq-eqb, ne_eqb, eqb-true}
+use Rattle.std.specs.List.{cons_option}
+use Rattle.std.proofs.lemmas.Bool.{cases_eq, cases_lt, eq-eqb, ne_eqb}
 use Rattle.std.proofs.lemmas.List.{get_or-map, length-map, get_or_past, get_or-set_same, get_or-set_other}
 use Rattle.std.proofs.Math.Seq.{map-set_same}
 use Rattle.chunk_block.specs.Blocks.{BlockState}
@@ -13,7 +13,7 @@ use Rattle.archetype_store.specs.Homes.{lodger, lodgers}
 use Rattle.archetype_store.specs.Slots.{slot_at}
 use Rattle.archetype_store.specs.Stores.{Numbered, OfNumber, with_block}
 use Rattle.archetype_store.proofs.Orders.{below_of}
-use Rattle.archetype_store.specs.Inside.{Beside, beside, kept, numbered, numbered_at, blocks_in}
+use Rattle.archetype_store.specs.Inside.{beside, kept, numbered, blocks_in}
 
 pub slot-kept : (slots : List (Option Held)) (n : ℕ) → slot_at (kept slots) n ≡ option_map beside (slot_at slots n)
 slot-kept slots n =

@@ -9,7 +9,7 @@ use Rattle.archetype_store.specs.declared.slots.Held.{Held}
 use Rattle.archetype_store.specs.declared.store.ArchetypeStore.TheInside.{Inside}
 use Rattle.archetype_store.specs.Slots.{slot_at}
 use Rattle.archetype_store.specs.Stores.{StoreState, Numbered, OfBlock, OfNumber, with_block, with_block_in}
-use Rattle.archetype_store.specs.Inside.{Beside, beside, kept, view_of, blocks_in, numbered, IsOrderly, IsConsistent}
+use Rattle.archetype_store.specs.Inside.{beside, kept, view_of, blocks_in, IsOrderly, IsConsistent}
 use Rattle.archetype_store.proofs.Orders.{below_of, none_some, some_is}
 use Rattle.archetype_store.proofs.Views.{at_number, for_number, written, kept-written}
 

@@ -1,5 +1,5 @@
 -- What contracts see of a store: its blocks in block order, each with its number and its shared values.
-use Rattle.std.specs.Prelude.{ℕ, ◌≡◌, ◌⊎◌, ◌<◌, ◌≤◌, ◌+◌, Bool, true, false, not, ◌&&◌, if◌then◌else◌, nat_eq, nat_lt, List, [], ◌∷◌, ◌++◌, length, map, filter, Option, Some, None, option_map, slice_get, slice_index_or, unwrap_or}
+use Rattle.std.specs.Prelude.{ℕ, ◌≡◌, ◌⊎◌, ◌<◌, ◌≤◌, Bool, true, false, not, ◌&&◌, if◌then◌else◌, nat_eq, nat_lt, List, [], ◌∷◌, ◌++◌, length, map, filter, Option, Some, None, option_map, slice_get, slice_index_or, unwrap_or}
 use Rattle.std.specs.Bool.{MatchBool}
 use Rattle.std.specs.List.{list_any, swap_remove}
 use Rattle.std.specs.Cmp.Lexicographic.{pointwise}
@@ -11,7 +11,7 @@ use Rattle.world_model.specs.Members.{In, IsRising, AreDistinct}
 use Rattle.world_model.specs.Part.{PartOf, part_type, same_part}
 use Rattle.world_model.specs.World.{capacity}
 use Rattle.block_columns.specs.declared.shape.TypeShape.{TypeShape}
-use Rattle.chunk_block.specs.Blocks.{BlockState, BlockType, LoanState, HaveTypes, column_types, new_block, new_types, no_row, row_in, lent_type}
+use Rattle.chunk_block.specs.Blocks.{BlockState, BlockType, new_block, new_types, no_row}
 use Rattle.archetype_store.specs.declared.numbers.TheConstants.{MOST_NUMBERS}
 
 -- a block of a store

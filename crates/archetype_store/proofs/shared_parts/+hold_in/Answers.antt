@@ -1,4 +1,4 @@
-use Rattle.std.proofs.Common.{◌≡◌, ℕ, List, ◌∷◌, ◌++◌, [], map, sym, ap, ◌∙◌, subst, refl, OnOk, Ok, Err, Result}
+use Rattle.std.proofs.Common.{◌≡◌, ℕ, List, ◌∷◌, ◌++◌, [], map, sym, subst, refl, OnOk, Ok, Err, Result}
 use Rattle.ent_types.specs.declared.memory.Memory.{Memory}
 use Rattle.world_model.specs.Part.{part_of as seen_part}
 use Rattle.archetype_store.specs.declared.shared_parts.SharedPart.{SharedPart}

@@ -1,7 +1,5 @@
 use Rattle.std.proofs.Common.{◌≡◌, Bool, true, false, not, nat_eq, ◌&&◌, refl, sym, ap, ◌∙◌}
 use Rattle.std.specs.Cmp.Lexicographic.{pointwise}
-use Rattle.ent_types.specs.declared.value.Value.{Value}
-use Rattle.ent_types.specs.contracts.value.ValuePartialEq.TheImpl as value_eq
 use Rattle.world_model.specs.Part.{same_value}
 use Rattle.shared_values.specs.Holds.{values_of}
 use Rattle.archetype_store.proofs.Values.{values_same}

@@ -1,4 +1,4 @@
-use Rattle.std.proofs.Common.{◌≡◌, ℕ, ◌<◌, length, ap, ◌∙◌, arith}
+use Rattle.std.proofs.Common.{ℕ, ◌+◌, ◌-◌, ◌/◌, ◌<◌, length, arith}
 use Rattle.archetype_store.proofs.Ranks.{place-before, place-found, place-from, rank-is, used-at}
 use Rattle.archetype_store.proofs.slots.place_in.Goals as goal
 

@@ -1,8 +1,7 @@
-use Rattle.std.proofs.Common.{Vec, Global, ◌≡◌, ℕ, ◌<◌, List, [], ◌∷◌, ◌++◌, length, map, Option, Some, sym, ap, ◌∙◌, subst, arith}
+use Rattle.std.proofs.Common.{Vec, Global, ◌≡◌, ℕ, List, [], ◌∷◌, ◌++◌, map, Some, sym, ap, ◌∙◌, subst, arith}
 use Rattle.std.specs.Option.{IfSome}
 use Rattle.std.specs.Vec.{vec_capacity}
 use Rattle.std.proofs.lemmas.List.{map-append}
-use Rattle.ent_types.specs.declared.type_info.TypeInfo.{TypeInfo}
 use Rattle.archetype_store.specs.Stores.{StoreState, LacksTypes}
 use Rattle.archetype_store.specs.Inside.{kept, IsOrderly}
 use Rattle.archetype_store.proofs.Added.{orderly-archetype}

@@ -1,4 +1,4 @@
-use Rattle.std.proofs.Common.{Vec, Global, get_or, set, nat_eq, false, ◌≤◌, ◌+◌, ◌≡◌, ℕ, ◌<◌, List, [], ◌∷◌, ◌++◌, length, map, Option, Some, None, Result, Ok, Err, OnErr, refl, sym, ap, ◌∙◌, subst, arith}
+use Rattle.std.proofs.Common.{Vec, Global, get_or, set, nat_eq, false, ◌≤◌, ◌≡◌, ℕ, ◌<◌, List, [], ◌∷◌, ◌++◌, length, map, Option, Some, None, Result, Ok, Err, OnErr, sym, ap, ◌∙◌, subst, arith}
 use Rattle.std.specs.Vec.{vec_capacity}
 use Rattle.std.specs.Prelude.{unwrap_or, option_map}
 use Rattle.std.specs.List.{list_any}
@@ -10,8 +10,7 @@ use Rattle.world_model.specs.World.{capacity}
 use Rattle.chunk_block.specs.Blocks.{BlockState, new_block as block_of}
 use Rattle.archetype_store.specs.declared.slots.Held.{Held}
 use Rattle.ent_types.specs.declared.memory.Memory.{Memory}
-use Rattle.archetype_store.specs.declared.store.ArchetypeStore.TheInside.{Inside}
-use Rattle.archetype_store.specs.Holding.{Backs, Holds, KeepsValues, parts_of}
+use Rattle.archetype_store.specs.Holding.{parts_of}
 use Rattle.archetype_store.specs.Slots.{AreFree, put_slot, slot_at}
 use Rattle.archetype_store.specs.Stores.{StoreState, types_at, shared_types, registry_of, new_numbered}
 use Rattle.archetype_store.specs.Inside.{Beside, beside, kept, all_ids, members_at, numbered, blocks_in, ranks_from, IsOfArchetype, IsOrderly}

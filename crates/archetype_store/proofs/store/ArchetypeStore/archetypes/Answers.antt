@@ -1,4 +1,4 @@
-use Rattle.std.proofs.Common.{◌≡◌, length, ap, ◌∙◌, arith}
+use Rattle.std.proofs.Common.{length, ap, arith}
 use Rattle.archetype_store.specs.Stores.{StoreState}
 use Rattle.archetype_store.proofs.store.ArchetypeStore.archetypes.Goals as goal
 

@@ -1,4 +1,4 @@
-use Rattle.std.proofs.Common.{◌≡◌, sym, ap, ◌∙◌}
+use Rattle.std.proofs.Common.{ap, ◌∙◌}
 use Rattle.archetype_store.specs.Stores.{StoreState, numbered_blocks}
 use Rattle.archetype_store.specs.Inside.{walked}
 use Rattle.archetype_store.proofs.Reading.{walked-seen}

@@ -1,6 +1,5 @@
-use Rattle.std.proofs.Common.{◌≡◌, ℕ, ◌<◌, List, Vec, Global, get_or, length, map, sym, ap, ◌∙◌, subst}
+use Rattle.std.proofs.Common.{◌≡◌, ◌<◌, get_or, length, sym, ap, ◌∙◌, subst}
 use Rattle.archetype_store.specs.Stores.{StoreState, numbers_in}
-use Rattle.archetype_store.specs.Inside.{kept, members_of}
 use Rattle.archetype_store.proofs.Found.{members-kept}
 use Rattle.archetype_store.proofs.Reading.{numbers-seen}
 use Rattle.archetype_store.proofs.store.ArchetypeStore.blocks_of.Goals as goal

@@ -1,11 +1,9 @@
-use Rattle.std.proofs.Common.{◌≡◌, ℕ, ◌<◌, ◌++◌, ◌∷◌, [], Bool, not, length, sym, ap, ◌∙◌, refl, subst, Some, arith}
+use Rattle.std.proofs.Common.{ℕ, ◌<◌, length, ◌∙◌, refl, arith}
 use Rattle.std.specs.Prelude.{slice_set}
-use Rattle.ent_types.specs.declared.entity.Entity.{Entity}
 use Rattle.ent_types.specs.declared.entity.TypeId.{TypeId}
 use Rattle.ent_types.specs.declared.value.Value.{Value}
-use Rattle.system_version.specs.declared.version.SystemVersion.{SystemVersion}
-use Rattle.block_columns.specs.Types.{with_value, with_off, TakesValue, IsEnableable}
-use Rattle.chunk_block.specs.Blocks.{BlockState, OfType, changed, row_in, with_mark}
+use Rattle.block_columns.specs.Types.{with_value, TakesValue}
+use Rattle.chunk_block.specs.Blocks.{BlockState, OfType, changed, row_in}
 use Rattle.archetype_store.proofs.Writes.{number-below, slot-found, slot-used, block-is, store-written, orderly-written}
 use Rattle.archetype_store.proofs.store.ArchetypeStore.field_set.Goals as goal
 

@@ -1,4 +1,4 @@
-use Rattle.std.proofs.Common.{◌≡◌, ◌≢◌, ℕ, ◌<◌, List, length, filter, not, sym, ap, ◌∙◌, subst, arith}
+use Rattle.std.proofs.Common.{◌≡◌, ◌≢◌, ℕ, ◌<◌, length, filter, not, sym, ap, ◌∙◌, subst, arith}
 use Rattle.chunk_block.specs.Blocks.{BlockState, IsWhole}
 use Rattle.archetype_store.specs.Stores.{StoreState, Numbered, OfBlock, is_emptied, without_row}
 use Rattle.archetype_store.proofs.Writes.{of-changed}

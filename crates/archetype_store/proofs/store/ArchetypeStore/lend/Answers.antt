@@ -1,16 +1,9 @@
-use Rattle.std.proofs.Common.{◌≡◌, ℕ, ◌<◌, ◌++◌, ◌∷◌, [], List, Bool, not, length, map, sym, ap, ◌∙◌, refl, subst, Some, arith}
-use Rattle.std.specs.Prelude.{slice_set, fold}
+use Rattle.std.proofs.Common.{◌≡◌, ℕ, List, map, ap, ◌∙◌, arith}
 use Rattle.std.specs.List.{flat_map}
-use Rattle.buffer_store.specs.Buffers.{Buffer, buffer}
-use Rattle.ent_types.specs.declared.entity.TypeId.{TypeId}
-use Rattle.ent_types.specs.declared.value.Value.{Value}
-use Rattle.block_columns.specs.Types.{TypeState, with_values, TakesElements}
-use Rattle.chunk_block.specs.Blocks.{BlockState, LoanState, IsLoanOf, AreHeld, OfType, changed, content_at, given_rows, given_type, lent_piece, lent_row, lent_type, row_in}
+use Rattle.chunk_block.specs.Blocks.{BlockState, IsLoanOf, AreHeld, lent_piece, lent_row, lent_type}
 use Rattle.archetype_store.specs.declared.slots.Held.{Held}
-use Rattle.archetype_store.specs.Slots.{slot_at}
-use Rattle.archetype_store.specs.Stores.{StoreState, OfBlock}
-use Rattle.archetype_store.specs.Inside.{beside, Beside}
-use Rattle.archetype_store.proofs.Shapes.{shapes-lent, shapes-given}
+use Rattle.archetype_store.specs.Inside.{beside}
+use Rattle.archetype_store.proofs.Shapes.{shapes-lent}
 use Rattle.archetype_store.proofs.Writes.{number-below, slot-found, slot-used, block-is, of-block, of-new-block, store-written, orderly-written}
 use Rattle.archetype_store.proofs.store.ArchetypeStore.lend.Goals as goal
 

@@ -1,12 +1,8 @@
-use Rattle.std.proofs.Common.{◌≡◌, ℕ, ◌<◌, ◌++◌, ◌∷◌, [], Bool, not, length, sym, ap, ◌∙◌, refl, subst, Some, arith}
-use Rattle.std.specs.Prelude.{slice_set}
-use Rattle.ent_types.specs.declared.entity.Entity.{Entity}
+use Rattle.std.proofs.Common.{◌∙◌, refl, arith}
 use Rattle.ent_types.specs.declared.entity.TypeId.{TypeId}
-use Rattle.ent_types.specs.declared.value.Value.{Value}
 use Rattle.system_version.specs.declared.version.SystemVersion.{SystemVersion}
-use Rattle.block_columns.specs.Types.{with_value, with_off, TakesValue, IsEnableable}
-use Rattle.chunk_block.specs.Blocks.{BlockState, OfType, changed, row_in, with_mark}
-use Rattle.archetype_store.proofs.Writes.{number-below, slot-found, slot-used, block-is, store-written, orderly-written}
+use Rattle.chunk_block.specs.Blocks.{BlockState, with_mark}
+use Rattle.archetype_store.proofs.Writes.{number-below, slot-found, slot-used, store-written, orderly-written}
 use Rattle.archetype_store.proofs.store.ArchetypeStore.mark.Goals as goal
 
 abbrev Asked : BlockState → Type 0

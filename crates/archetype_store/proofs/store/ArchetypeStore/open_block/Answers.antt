@@ -1,4 +1,4 @@
-use Rattle.std.proofs.Common.{◌≡◌, ℕ, ◌<◌, List, Vec, Global, get_or, length, map, find, sym, ap, ◌∙◌, subst}
+use Rattle.std.proofs.Common.{◌≡◌, ◌<◌, get_or, length, map, find, sym, ap, ◌∙◌, subst}
 use Rattle.world_model.specs.Part.{part_of as seen_part}
 use Rattle.archetype_store.specs.Stores.{StoreState}
 use Rattle.archetype_store.specs.Inside.{AreUsed, is_open, kept, members_of}

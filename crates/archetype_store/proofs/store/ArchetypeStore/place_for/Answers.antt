@@ -1,9 +1,9 @@
-use Rattle.std.proofs.Common.{◌≡◌, ℕ, Bool, true, false, List, map, Result, Ok, Err, IfOk, refl, sym, ap, ◌∙◌, subst}
+use Rattle.std.proofs.Common.{◌≡◌, ℕ, false, List, map, Result, Ok, Err, IfOk, refl, sym, ◌∙◌, subst}
 use Rattle.std.proofs.lemmas.Bool.{false≢true}
 use Rattle.ent_types.specs.declared.memory.Memory.{Memory}
 use Rattle.ent_types.specs.declared.value.Value.{Value}
 use Rattle.world_model.specs.Part.{PartOf, part_of as seen_part}
-use Rattle.archetype_store.specs.Stores.{StoreState, Adds, Opens, is_full, IsFirstWithRoom, new_numbered}
+use Rattle.archetype_store.specs.Stores.{Adds, Opens, is_full, IsFirstWithRoom, new_numbered}
 use Rattle.archetype_store.proofs.Found.{first-not-full, first-added, new-has-room}
 use Rattle.archetype_store.proofs.store.ArchetypeStore.place_for.Goals as goal
 

@@ -1,7 +1,6 @@
-use Rattle.std.proofs.Common.{◌≡◌, ◌<◌, ◌++◌, ◌∷◌, [], length, sym, ap, ◌∙◌, refl, subst, Some, arith}
+use Rattle.std.proofs.Common.{◌≡◌, ◌<◌, ◌++◌, ◌∷◌, [], length, ◌∙◌, refl, arith}
 use Rattle.ent_types.specs.declared.entity.Entity.{Entity}
 use Rattle.chunk_block.specs.Blocks.{BlockState, IsWhole, new_row}
-use Rattle.archetype_store.specs.Slots.{slot_at}
 use Rattle.archetype_store.proofs.Writes.{number-below, slot-found, slot-used, block-is, of-block, store-written, orderly-written}
 use Rattle.archetype_store.proofs.store.ArchetypeStore.push_row.Goals as goal
 

@@ -1,13 +1,11 @@
-use Rattle.std.proofs.Common.{Vec, Global, ◌≡◌, ℕ, ◌<◌, ◌++◌, ◌∷◌, [], List, length, map, filter, not, nat_eq, get_or, set, Option, Some, None, sym, ap, ◌∙◌, refl, subst, arith}
+use Rattle.std.proofs.Common.{Vec, Global, ◌≡◌, ℕ, ◌<◌, length, map, filter, not, nat_eq, get_or, set, None, sym, ap, ◌∙◌, subst, arith}
 use Rattle.std.specs.Prelude.{option_map}
 use Rattle.std.specs.Option.{IsSome}
 use Rattle.std.specs.Vec.{vec_capacity}
 use Rattle.world_model.specs.Members.{In, IsRising}
 use Rattle.archetype_store.specs.declared.slots.Held.{Held}
-use Rattle.archetype_store.specs.declared.store.ArchetypeStore.TheInside.{Inside}
-use Rattle.archetype_store.specs.Holding.{Backs, Releases, ids_of}
+use Rattle.archetype_store.specs.Holding.{Backs, ids_of}
 use Rattle.archetype_store.specs.Slots.{slot_at}
-use Rattle.archetype_store.specs.Stores.{StoreState, OfBlock, HasBlocks, without_block}
 use Rattle.archetype_store.specs.Inside.{AreUsed, beside, kept, number_at, rank_at, IsOrderly}
 use Rattle.archetype_store.proofs.Views.{slot-kept}
 use Rattle.archetype_store.proofs.Writes.{slot-some, there}

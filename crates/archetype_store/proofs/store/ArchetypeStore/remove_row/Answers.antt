@@ -1,4 +1,4 @@
-use Rattle.std.proofs.Common.{◌≡◌, ℕ, ◌<◌, length, sym, ap, ◌∙◌, refl, subst, Some, arith}
+use Rattle.std.proofs.Common.{◌≡◌, ℕ, ◌<◌, length, ap, ◌∙◌, refl, arith}
 use Rattle.std.specs.Prelude.{option_map, slice_get}
 use Rattle.chunk_block.specs.Blocks.{BlockState, IsWhole}
 use Rattle.archetype_store.specs.Stores.{moved_into, without_row}
