@@ -32,7 +32,7 @@ use Rattle.std.proofs.lemmas.List.Sums.{sum_by-append}
 use Rattle.archetype_store.proofs.Views.{slot-kept}
 
 -- an id of a block is among those of all
-among : (slots : List (Option Beside)) (n : ℕ) (x : Beside) → slot_at slots n ≡ Some x → (id : ℕ) → In id (ids_of x.shared) → In id (all_ids slots)
+pub among : (slots : List (Option Beside)) (n : ℕ) (x : Beside) → slot_at slots n ≡ Some x → (id : ℕ) → In id (ids_of x.shared) → In id (all_ids slots)
 among [] n x at id is = absurd (none_some x at)
 among (o ∷ os) zero x at id is = in-left id (ids_in o) (all_ids os) (subst (λ p. In id (ids_in p)) (sym at) is)
   where
@@ -227,7 +227,7 @@ module _ (s : Inside) (consistent : IsConsistent s) (a : ℕ) (v d : Vec ℕ Glo
       (subst (λ o. IsOrderly s.registry s.archetypes.items (map (λ (w : Vec ℕ Global). w.items) s.members.items) (kept slots) free room o table) (sym order_is)
       (subst (λ f. IsOrderly s.registry s.archetypes.items (map (λ (w : Vec ℕ Global). w.items) s.members.items) (kept slots) f room s.order.items table) (sym free_are)
       (subst (λ k. IsOrderly s.registry s.archetypes.items (map (λ (w : Vec ℕ Global). w.items) s.members.items) (kept k) s.free.items room s.order.items table) (sym slots_are)
-      (orderly-more s.registry s.archetypes.items (map (λ (w : Vec ℕ Global). w.items) s.members.items) (kept s.slots.items) s.free.items (vec_capacity s.free) s.order.items s.shared consistent room table more backs))))
+      (orderly-more s.registry s.archetypes.items (map (λ (w : Vec ℕ Global). w.items) s.members.items) (kept s.slots.items) s.free.items (vec_capacity s.free) s.order.items s.shared consistent.0 room table more backs))))
 
 parts-one : (slots : List (Option Held)) (old new : List Interned) (m : ℕ) (h : Held) → KeepsValues old new (all_ids (kept slots)) → slot_at (kept slots) m ≡ Some (beside h)
     → parts_of new h.shared.items ≡ parts_of old h.shared.items

@@ -4,7 +4,7 @@ use Rattle.std.specs.Bool.{MatchBool}
 use Rattle.std.proofs.lemmas.Bool.{cases_eq, eq-eqb, ne_eqb}
 use Rattle.world_model.specs.Members.{In, AreDistinct}
 use Rattle.chunk_block.specs.Blocks.{BlockState}
-use Rattle.archetype_store.specs.Stores.{Numbered, OfBlock, is_emptied, without_block}
+use Rattle.archetype_store.specs.Stores.{Numbered, OfBlock, OfNumber, is_emptied, without_block}
 
 abbrev keep : ℕ → Numbered → Bool
 keep n b = not (is_emptied n b)
@@ -73,4 +73,13 @@ of-each n P Q (b ∷ bs) is so = by (nat_eq b.number n) is (λ rest. of-each n P
   where
     by : (t : Bool) → MatchBool t (P b.block) (OfBlock n P bs) → (OfBlock n P bs → OfBlock n Q bs) → MatchBool t (Q b.block) (OfBlock n Q bs)
     by true here rest = so b.block here
+    by false there rest = rest there
+
+-- and of a block that is among them
+pub of-each-in : (n : ℕ) (P Q : Numbered → Type 0) (bs : List Numbered) → OfNumber n P bs → ((b : Numbered) → In b bs → P b → Q b) → OfNumber n Q bs
+of-each-in n P Q [] is so = absurd is
+of-each-in n P Q (b ∷ bs) is so = by (nat_eq b.number n) is (λ rest. of-each-in n P Q bs rest (λ c there. so c (inr there)))
+  where
+    by : (t : Bool) → MatchBool t (P b) (OfNumber n P bs) → (OfNumber n P bs → OfNumber n Q bs) → MatchBool t (Q b) (OfNumber n Q bs)
+    by true here rest = so b (inl refl) here
     by false there rest = rest there

@@ -1,14 +1,16 @@
 -- The homes of blocks after one block changed, and after a home more.
-use Rattle.std.proofs.Common.{◌≡◌, ◌≢◌, ◌⊎◌, ℕ, zero, suc, ◌+◌, ◌<◌, ◌≤◌, inl, inr, Bool, true, false, not, cond, ◌&&◌, ◌||◌, nat_eq, List, [], ◌∷◌, ◌++◌, length, set, map, Option, Some, None, refl, sym, ap, ◌∙◌, subst, arith}
+use Rattle.std.proofs.Common.{◌≡◌, ◌≢◌, ◌⊎◌, ℕ, zero, suc, ◌+◌, ◌<◌, ◌≤◌, inl, inr, Bool, true, false, not, cond, ◌&&◌, ◌||◌, nat_eq, List, [], ◌∷◌, ◌++◌, length, get_or, set, map, Option, Some, None, refl, sym, ap, ◌∙◌, subst, arith}
 use Rattle.std.specs.Prelude.{option_map, count_by, is_some}
 use Rattle.std.proofs.lemmas.Bool.{cases_eq, cases_Bool, cases_lt, cond-true, cond-false, eq-eqb, ne_eqb, false≢true}
-use Rattle.std.proofs.lemmas.List.{get_or-set_same, get_or-set_other, get_or_past, length-set, length-append, get_or_append_left}
+use Rattle.std.proofs.lemmas.List.{get_or-map, get_or-set_same, get_or-set_other, length-map, length-set, length-append, get_or_append_left, map-set}
 use Rattle.std.proofs.lemmas.List.Sums.{sum_by-append, sum_by-set}
 use Rattle.std.proofs.Math.Seq.{get_or-append_seam}
 use Rattle.world_model.specs.Members.{In, IsRising}
+use Rattle.std.specs.Vec.{vec_capacity}
+use Rattle.archetype_store.specs.declared.homes.Home.{Home}
 use Rattle.archetype_store.specs.declared.homes.HomeKey.{HomeKey}
 use Rattle.archetype_store.specs.HomeKeys.{same_home, home_decides}
-use Rattle.archetype_store.specs.Homes.{AreHomes, HomeState, IsHomeFor, Lodger, has_rank, home_at, is_crowded, is_roomy, is_roomy_at, key_of, no_home}
+use Rattle.archetype_store.specs.Homes.{AreHomes, HomeState, IsHomeFor, Lodger, has_rank, home_at, home_state, homes_of, is_crowded, is_roomy, is_roomy_at, key_of, no_home}
 use Rattle.archetype_store.specs.Slots.{slot_at}
 use Rattle.archetype_store.proofs.Orders.{some_is, none_some}
 
@@ -223,3 +225,61 @@ module _ (homes : List HomeState) (found : HomeKey → Option ℕ) (slots : List
               | inl same ↦ absurd (none_some x.home (sym lacks ∙ ap found ((home_decides key (key_of x)).0 same) ∙ are.keys m x at))
               | inr differs ↦ finds (key_of x) ∙ cond-false (same_home key (key_of x)) _ _ differs ∙ are.keys m x at
             ]
+
+-- a home that took memory
+module _ (homes : List Home) (found : HomeKey → Option ℕ) (slots : List (Option Lodger)) (order : List (Option ℕ)) (are : AreHomes (homes_of homes) found slots order) (h : ℕ) (v w : Home) (below : h < length homes)
+    (at : v ≡ get_or homes h v) (ranks : w.ranks.items ≡ v.ranks.items) (full : w.full ≡ v.full) (more : vec_capacity v.ranks ≤ vec_capacity w.ranks) where
+  pub seen-below : h < length (homes_of homes)
+  seen-below = omega (arith, below, length-map homes home_state)
+
+  home-was : home_at (homes_of homes) h ≡ home_state v
+  home-was = get_or-map home_state homes h v no_home below ∙ ap home_state (sym at)
+
+  home-now : home_at (homes_of (set homes h w)) h ≡ home_state w
+  home-now = ap (λ hs. home_at hs h) (map-set home_state homes h w) ∙ get_or-set_same (homes_of homes) h (home_state w) no_home seen-below
+
+  others-same : (g : ℕ) → g ≢ h → home_at (homes_of (set homes h w)) g ≡ home_at (homes_of homes) g
+  others-same g apart = ap (λ hs. home_at hs g) (map-set home_state homes h w) ∙ get_or-set_other (homes_of homes) h g (home_state w) no_home apart
+
+  pub reserved : AreHomes (homes_of (set homes h w)) found slots order
+  reserved =
+      roomier (homes_of homes) found slots order are (homes_of (set homes h w)) (omega (arith, length-map (set homes h w) home_state, length-set homes h w, length-map homes home_state))
+      (λ g.
+      elim (cases_eq g h) [
+        | inl same ↦
+            ap (λ k. (home_at (homes_of (set homes h w)) k).ranks) same ∙ ap (λ (x : HomeState). x.ranks) home-now ∙ ranks ∙ sym (ap (λ (x : HomeState). x.ranks) home-was)
+            ∙ ap (λ k. (home_at (homes_of homes) k).ranks) (sym same)
+        | inr apart ↦ ap (λ (x : HomeState). x.ranks) (others-same g apart)
+      ])
+      (λ g.
+      elim (cases_eq g h) [
+        | inl same ↦
+            ap (λ k. (home_at (homes_of (set homes h w)) k).full) same ∙ ap (λ (x : HomeState). x.full) home-now ∙ full ∙ sym (ap (λ (x : HomeState). x.full) home-was)
+            ∙ ap (λ k. (home_at (homes_of homes) k).full) (sym same)
+        | inr apart ↦ ap (λ (x : HomeState). x.full) (others-same g apart)
+      ])
+      (λ g.
+      elim (cases_eq g h) [
+        | inl same ↦
+            omega (
+              arith,
+              more,
+              ap (λ k. (home_at (homes_of (set homes h w)) k).room) same,
+              ap (λ (x : HomeState). x.room) home-now,
+              ap (λ (x : HomeState). x.room) home-was,
+              ap (λ k. (home_at (homes_of homes) k).room) same,
+            )
+        | inr apart ↦ omega (arith, ap (λ (x : HomeState). x.room) (others-same g apart))
+      ])
+
+-- and has room for a block
+pub home-for : (homes : List Home) (found : HomeKey → Option ℕ) (key : HomeKey) (h : ℕ) (w : Home) → h < length homes → found key ≡ Some h → length w.ranks.items + w.full < vec_capacity w.ranks
+    → IsHomeFor (homes_of (set homes h w)) found key h
+home-for homes found key h w below is room =
+    let now : home_at (homes_of (set homes h w)) h ≡ home_state w =
+    ap (λ hs. home_at hs h) (map-set home_state homes h w) ∙ get_or-set_same (homes_of homes) h (home_state w) no_home (omega (arith, below, length-map homes home_state)) in
+    record {
+      below = omega (arith, below, length-map (set homes h w) home_state, length-set homes h w);
+      is = is;
+      room = subst (λ (x : HomeState). length x.ranks + x.full < x.room) (sym now) room;
+    }

@@ -1,8 +1,8 @@
 -- Rising ranks with one more and with one less.
-use Rattle.std.proofs.Common.{◌≡◌, ◌≢◌, ◌⊎◌, ℕ, zero, suc, ◌+◌, ◌<◌, ◌≤◌, inl, inr, Bool, true, false, not, cond, ◌&&◌, ◌||◌, nat_eq, List, [], ◌∷◌, ◌++◌, length, get_or, map, filter, Option, Some, None, refl, sym, ap, ◌∙◌, subst, arith}
-use Rattle.std.specs.List.{list_any, insert, remove}
-use Rattle.std.proofs.lemmas.Bool.{cases_eq, eq-eqb, ne_eqb, eqb-true, false≢true}
-use Rattle.std.proofs.lemmas.List.{length-append}
+use Rattle.std.proofs.Common.{◌≡◌, ◌≢◌, ◌⊎◌, ℕ, zero, suc, ◌+◌, ◌-◌, ◌<◌, ◌≤◌, nat_lt, set, inl, inr, Bool, true, false, not, cond, ◌&&◌, ◌||◌, nat_eq, List, [], ◌∷◌, ◌++◌, length, get_or, map, filter, Option, Some, None, refl, sym, ap, ◌∙◌, subst, arith}
+use Rattle.std.specs.List.{list_any, insert, remove, swap_remove}
+use Rattle.std.proofs.lemmas.Bool.{cases_eq, cases_lt, eq-eqb, ne_eqb, eqb-true, false≢true, le-ltb, lt-ltb}
+use Rattle.std.proofs.lemmas.List.{length-append, length-set, length-take}
 use Rattle.std.proofs.lemmas.List.Folds.{list_any-append}
 use Rattle.std.proofs.lemmas.List.Sorted.{IsPermutation-insert, IsPermutation-remove, list_any-IsPermutation, length_permutation}
 use Rattle.world_model.specs.Members.{In, IsRising}
@@ -169,3 +169,35 @@ least x xs r rising has = by (has-in r (x ∷ xs) has)
     by : In r (x ∷ xs) → x ≤ r
     by (inl e) = omega (arith, e)
     by (inr is) = omega (arith, rising.0 r is)
+
+-- ---- what a search finds
+
+pub ordered : (xs : List ℕ) → IsRising xs → (i j : ℕ) → i ≤ j → j < length xs → get_or xs i 0 ≤ get_or xs j 0
+ordered xs rising i j less below =
+    elim (cases_eq i j) [
+      | inl same ↦ omega (arith, ap (λ k. get_or xs k 0) same)
+      | inr apart ↦ omega (arith, rising-at xs rising i j (omega (arith, less, apart)) below)
+    ]
+
+pub has-at : (xs : List ℕ) (i y : ℕ) → i < length xs → get_or xs i 0 ≡ y → list_any (nat_eq y) xs ≡ true
+has-at xs i y below is = in-has y xs (subst (λ x. In x xs) is (in-at xs i below))
+
+pub has-not : (xs : List ℕ) (i y : ℕ) → ((k : ℕ) → k < i → get_or xs k 0 < y) → ((k : ℕ) → i ≤ k → k < length xs → y < get_or xs k 0) → list_any (nat_eq y) xs ≡ true → ⊥
+has-not xs i y before after has =
+    let at = at-in xs y (has-in y xs has) in
+    elim (cases_lt at.0 i) [
+      | inl less ↦ omega (arith, before at.0 less, at.1.1)
+      | inr more ↦ omega (arith, after at.0 more at.1.0, at.1.1)
+    ]
+
+-- ---- rows
+
+pub length-removed : {X : Type 0} (xs : List X) (i : ℕ) (d : X) → length (swap_remove xs i d) ≡ length xs - 1
+length-removed xs i d = length-take (length xs - 1) (set xs i (get_or xs (length xs - 1) d)) ∙ omega (arith, length-set xs i (get_or xs (length xs - 1) d))
+
+pub room-left : (l c : ℕ) → l < c → nat_lt 1 (c - l) ≡ nat_lt (l + 1) c
+room-left l c less =
+    elim (cases_lt (l + 1) c) [
+      | inl more ↦ lt-ltb 1 (c - l) (omega (arith, more)) ∙ sym (lt-ltb (l + 1) c more)
+      | inr none ↦ le-ltb 1 (c - l) (omega (arith, none)) ∙ sym (le-ltb (l + 1) c none)
+    ]

@@ -76,7 +76,7 @@ told-all slots order ordered k n at =
     let rank : Some (there.0).rank ≡ Some k = ap (option_map (λ (x : Beside). x.rank)) (sym kept_there) ∙ ordered k n at in
     (there.0, (there.1, omega (arith, some_is (there.0).rank k rank)))
 
-told-rest : (slots : List (Option Held)) (i : ℕ) (o : Option ℕ) (os : List (Option ℕ)) → Told slots i (o ∷ os) → Told slots (i + 1) os
+pub told-rest : (slots : List (Option Held)) (i : ℕ) (o : Option ℕ) (os : List (Option ℕ)) → Told slots i (o ∷ os) → Told slots (i + 1) os
 told-rest slots i o os told k n at = let t = told (suc k) n at in (t.0, (t.1.0, omega (arith, t.1.1)))
 
 pub rank-is : (slots : List (Option Held)) (n : ℕ) (h : Held) → slot_at slots n ≡ Some h → rank_at slots n ≡ h.rank

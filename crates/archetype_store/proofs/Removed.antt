@@ -156,7 +156,7 @@ module _ (s : Inside) (consistent : IsConsistent s) (n : ℕ) (h : Held) (there 
             (subst (λ f. IsOrderly s.registry s.archetypes.items left_members (set (kept s.slots.items) n None) f room order table) (sym free_are)
             (subst (λ r. IsOrderly s.registry s.archetypes.items left_members (set (kept s.slots.items) n None) (s.free.items ++ n ∷ []) r order table) (sym room_is)
             (subst (λ o. IsOrderly s.registry s.archetypes.items left_members (set (kept s.slots.items) n None) (s.free.items ++ n ∷ []) (vec_capacity s.free) o table) (sym order_is)
-            (orderly-gone s.registry s.archetypes.items (map (λ (u : Vec ℕ Global). u.items) s.members.items) (kept s.slots.items) s.free.items (vec_capacity s.free) s.order.items s.shared consistent n (beside h) table there-kept
+            (orderly-gone s.registry s.archetypes.items (map (λ (u : Vec ℕ Global). u.items) s.members.items) (kept s.slots.items) s.free.items (vec_capacity s.free) s.order.items s.shared consistent.0 n (beside h) table there-kept
             (released s.shared table (kept s.slots.items) n (beside h) held consistent.0.backs there-kept same releases).backs)))))
 
   module _ (table : List Interned) (held : List SharedPart) (same : held ≡ h.shared.items) (releases : Releases s.shared table held) (slots : List (Option Held)) (slots_are : slots ≡ set s.slots.items n None)

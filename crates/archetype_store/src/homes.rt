@@ -2,11 +2,10 @@
 //!
 //! A home is an archetype with the values of its shared types. It is found by the ids of these values, so that its blocks are found
 //! without a look at those of other homes.
-ghost use Rattle.std.specs.Prelude.{◌≡◌, ℕ, List, ◌++◌, ◌+◌, ◌<◌, ◌≤◌, false, true, length, Option, None, Some, IfOk, OnOk, OnErr, vec_capacity};
+ghost use Rattle.std.specs.Prelude.{◌≡◌, ℕ, List, ◌++◌, ◌+◌, ◌<◌, ◌≤◌, false, true, length, Option, None, IfOk, OnOk, vec_capacity};
 ghost use Rattle.std.specs.Cmp.{partial_equiv_from_equiv};
-ghost use Rattle.std.specs.HashMap.{get, IsUnchanged, Updates};
+ghost use Rattle.std.specs.HashMap.{get};
 ghost use Rattle.world_model.specs.Members.{IsRising};
-ghost use Rattle.world_model.specs.Part.{part_of as seen_part};
 ghost use Rattle.archetype_store.specs.declared.numbers.TheConstants.{MOST_NUMBERS};
 ghost use Rattle.archetype_store.specs.Holding.{ids_of};
 ghost use Rattle.archetype_store.specs.HomeKeys.{same_home, home_writes, same_home_equiv, home_writes_alike};

@@ -1,10 +1,8 @@
 //! Shared values that blocks hold by their ids.
-ghost use Rattle.std.specs.Prelude.{◌≡◌, ℕ, List, ◌+◌, ◌≤◌, [], ◌∷◌, ◌++◌, map, length, IfOk, OnOk, OnErr, IsSome, Some, vec_capacity};
-ghost use Rattle.std.specs.Cmp.Lexicographic.{pointwise};
-ghost use Rattle.world_model.specs.Part.{part_of as seen_part, same_part};
+ghost use Rattle.std.specs.Prelude.{◌≡◌, ℕ, List, ◌+◌, ◌≤◌, [], ◌∷◌, ◌++◌, map, length, IfOk, OnOk, OnErr, IsSome, Some, option_map, vec_capacity};
+ghost use Rattle.world_model.specs.Part.{part_of as seen_part};
 ghost use Rattle.world_model.specs.Found.{part_at};
-ghost use Rattle.shared_values.specs.Holds.{values_of, IsHeld};
-ghost use Rattle.archetype_store.specs.Holding.{part_of as seen, parts_of, ids_of, Backs, Holds, Releases};
+ghost use Rattle.archetype_store.specs.Holding.{AddsIds, AreIdsFor, AreTyped, Backs, Holds, Releases, ids_of, parts_of};
 
 use ent_types::{Memory, Part, TypeId, Values};
 use shared_values::{SharedId, SharedTable};

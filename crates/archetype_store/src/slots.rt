@@ -1,19 +1,23 @@
 //! What a store keeps for each block, by the block's number.
-ghost use Rattle.std.specs.Prelude.{◌≡◌, ℕ, List, ◌<◌, ◌&&◌, nat_lt, [], length, map, find, unwrap_or, slice_set, None, Some, IsSome, IfSome, IfOk, OnErr};
+ghost use Rattle.std.specs.Prelude.{◌≡◌, ℕ, List, Option, ◌<◌, [], length, map, unwrap_or, slice_set, None, Some, IsSome, IfSome, IfOk, OnErr};
+ghost use Rattle.std.specs.HashMap.{get};
 ghost use Rattle.world_model.specs.Members.{In, IsRising};
 ghost use Rattle.world_model.specs.World.{capacity};
 ghost use Rattle.chunk_block.specs.Blocks.{new_block as block_of};
-ghost use Rattle.std.specs.Cmp.Lexicographic.{pointwise};
-ghost use Rattle.world_model.specs.Part.{part_of as seen_part, same_part};
+ghost use Rattle.world_model.specs.Part.{part_of as seen_part};
 ghost use Rattle.archetype_store.specs.Slots.{slot_at};
-ghost use Rattle.archetype_store.specs.Holding.{Backs, Holds, ids_of, parts_of};
-ghost use Rattle.archetype_store.specs.Inside.{AreUsed, all_ids, is_open, kept, number_at, rank_at};
+ghost use Rattle.archetype_store.specs.Holding.{AreTyped, Backs, Holds, ids_of, parts_of};
+ghost use Rattle.archetype_store.specs.HomeKeys.{same_home};
+ghost use Rattle.archetype_store.specs.Homes.{AreFew, AreHomes, AreKnown, IsHomeFor, Lodger, homes_of};
+ghost use Rattle.archetype_store.specs.Inside.{AreUsed, number_at, rank_at};
 
-use crate::shared_parts::{SharedPart, are_values, hold_all};
+use crate::homes::{Home, HomeKey, home_for};
+use crate::shared_parts::{SharedPart, hold_all, release_all};
 use chunk_block::{Block, BlockFault};
 use ent_types::{Memory, Part, Registry, TypeSet};
 use shared_values::SharedTable;
 use std::alloc::Global;
+use std::collections::HashMap;
 
 /// A block with what its store keeps beside it.
 #[derive(Drop)]

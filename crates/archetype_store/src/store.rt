@@ -17,7 +17,7 @@ use crate::blocks::Blocks;
 use crate::homes::{Home, HomeKey, drop_rank, first_in, note_room};
 use crate::numbers::{MOST_NUMBERS, put, take_room};
 use crate::shared_parts::{find_ids, release_all, values_in};
-use crate::slots::{Held, archetype_and_rank, first_open, held_at, new_held, place_in, take_out};
+use crate::slots::{Held, archetype_and_rank, held_at, new_held, place_in, take_out};
 use buffer_store::Elements;
 use chunk_block::{Block, BlockFault, Loan};
 use ent_types::{
@@ -174,7 +174,7 @@ impl ArchetypeStore {
     {
         let held = held_at(&self.slots, number);
         let (home, rank) = (held.home, held.rank);
-        let roomy = held.block.len() + 1 < held.block.capacity();
+        let roomy = held.block.capacity() - held.block.len() > 1;
         note_room(&mut self.homes[home], rank, true, roomy);
         match &mut self.slots[number as usize] {
             Some(held) => held.block.push_row(e),

@@ -4,7 +4,8 @@ use Rattle.chunk_block.specs.Blocks.{BlockState, IsLoanOf, AreHeld, lent_piece, 
 use Rattle.archetype_store.specs.declared.slots.Held.{Held}
 use Rattle.archetype_store.specs.Inside.{beside}
 use Rattle.archetype_store.proofs.Shapes.{shapes-lent}
-use Rattle.archetype_store.proofs.Writes.{number-below, slot-found, slot-used, block-is, of-block, of-new-block, store-written, orderly-written}
+use Rattle.archetype_store.proofs.Writes.{number-below, slot-found, slot-used, block-is, of-block, of-new-block, store-written, consistent-written}
+use Rattle.std.proofs.lemmas.List.{length-map}
 use Rattle.archetype_store.proofs.store.ArchetypeStore.lend.Goals as goal
 
 abbrev Asked : List ℕ → BlockState → Type 0
@@ -26,7 +27,7 @@ pub lend-requires : goal.lend-requires
 lend-requires c = block-is c.self.inside c.args.self.now c.self.view_is c.args.number (Asked c.args.types.now) c.requires c.in-Some.held (slot-found c.self.inside c.args.self.now c.self.view_is c.args.number (Asked c.args.types.now) c.requires c.index_mut.result.now c.index_mut.ensures.value ∙ c.in-Some.is)
 
 pub invariant_of-self : goal.invariant_of-self
-invariant_of-self c = orderly-written c.self.inside c.args.self.now c.self.view_is c.args.number (Asked c.args.types.now) c.requires c.in-Some.held (after c.args.types.now) c.lend.new.self (slot-found c.self.inside c.args.self.now c.self.view_is c.args.number (Asked c.args.types.now) c.requires c.index_mut.result.now c.index_mut.ensures.value ∙ c.in-Some.is) c.lend.ensures.block (same_beside c.args.types.now c.in-Some.held) c.self.invariant
+invariant_of-self c = consistent-written c.self.inside c.args.self.now c.self.view_is c.args.number (Asked c.args.types.now) c.requires c.in-Some.held (after c.args.types.now) c.lend.new.self (slot-found c.self.inside c.args.self.now c.self.view_is c.args.number (Asked c.args.types.now) c.requires c.index_mut.result.now c.index_mut.ensures.value ∙ c.in-Some.is) c.lend.ensures.block (same_beside c.args.types.now c.in-Some.held) (length-map c.in-Some.held.block.rows (lent_row c.args.types.now)) c.self.invariant
 
 pub returns-clause-store : goal.returns-clause-store
 returns-clause-store c = store-written c.self.inside c.args.self.now c.self.view_is c.args.number (Asked c.args.types.now) c.requires c.in-Some.held (after c.args.types.now) c.lend.new.self (slot-found c.self.inside c.args.self.now c.self.view_is c.args.number (Asked c.args.types.now) c.requires c.index_mut.result.now c.index_mut.ensures.value ∙ c.in-Some.is) c.lend.ensures.block

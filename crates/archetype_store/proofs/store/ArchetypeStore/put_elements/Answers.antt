@@ -5,7 +5,8 @@ use Rattle.ent_types.specs.declared.entity.TypeId.{TypeId}
 use Rattle.ent_types.specs.declared.value.Value.{Value}
 use Rattle.block_columns.specs.Types.{with_values, TakesElements}
 use Rattle.chunk_block.specs.Blocks.{BlockState, OfType, changed, content_at, row_in}
-use Rattle.archetype_store.proofs.Writes.{number-below, slot-found, slot-used, block-is, of-block, store-written, orderly-written}
+use Rattle.archetype_store.proofs.Writes.{number-below, slot-found, slot-used, block-is, of-block, store-written, consistent-written}
+use Rattle.std.proofs.lemmas.List.{length-set}
 use Rattle.archetype_store.proofs.store.ArchetypeStore.put_elements.Goals as goal
 
 abbrev Asked : ℕ → TypeId → Buffer Value → BlockState → Type 0
@@ -27,7 +28,7 @@ pub put_elements-requires-clause-there : goal.put_elements-requires-clause-there
 put_elements-requires-clause-there c = (block-is c.self.inside c.args.self.now c.self.view_is c.args.number (Asked c.args.row c.args.ty c.args.new) c.requires c.in-Some.held (slot-found c.self.inside c.args.self.now c.self.view_is c.args.number (Asked c.args.row c.args.ty c.args.new) c.requires c.index_mut.result.now c.index_mut.ensures.value ∙ c.in-Some.is)).1
 
 pub invariant_of-self : goal.invariant_of-self
-invariant_of-self c = orderly-written c.self.inside c.args.self.now c.self.view_is c.args.number (Asked c.args.row c.args.ty c.args.new) c.requires c.in-Some.held (after c.args.row c.args.ty c.args.new) c.put_elements.new.self (slot-found c.self.inside c.args.self.now c.self.view_is c.args.number (Asked c.args.row c.args.ty c.args.new) c.requires c.index_mut.result.now c.index_mut.ensures.value ∙ c.in-Some.is) c.put_elements.ensures.new refl c.self.invariant
+invariant_of-self c = consistent-written c.self.inside c.args.self.now c.self.view_is c.args.number (Asked c.args.row c.args.ty c.args.new) c.requires c.in-Some.held (after c.args.row c.args.ty c.args.new) c.put_elements.new.self (slot-found c.self.inside c.args.self.now c.self.view_is c.args.number (Asked c.args.row c.args.ty c.args.new) c.requires c.index_mut.result.now c.index_mut.ensures.value ∙ c.in-Some.is) c.put_elements.ensures.new refl (length-set c.in-Some.held.block.rows c.args.row _) c.self.invariant
 
 pub returns-clause-new : goal.returns-clause-new
 returns-clause-new c = store-written c.self.inside c.args.self.now c.self.view_is c.args.number (Asked c.args.row c.args.ty c.args.new) c.requires c.in-Some.held (after c.args.row c.args.ty c.args.new) c.put_elements.new.self (slot-found c.self.inside c.args.self.now c.self.view_is c.args.number (Asked c.args.row c.args.ty c.args.new) c.requires c.index_mut.result.now c.index_mut.ensures.value ∙ c.in-Some.is) c.put_elements.ensures.new
