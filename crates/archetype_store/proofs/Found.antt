@@ -1,11 +1,11 @@
 -- The first block that has room.
-use Rattle.std.proofs.Common.{Vec, Global, get_or, arith, ◌≡◌, ℕ, ◌<◌, Bool, true, false, not, cond, ◌&&◌, ◌||◌, nat_eq, nat_lt, List, [], ◌∷◌, ◌++◌, length, find, Option, Some, None, refl, sym, ap, ◌∙◌, subst}
+use Rattle.std.proofs.Common.{Vec, Global, get_or, arith, ◌≡◌, ℕ, ◌<◌, Bool, true, false, not, cond, ◌&&◌, ◌||◌, nat_eq, nat_lt, List, [], ◌∷◌, ◌++◌, length, Option, Some, None, refl, sym, ap, ◌∙◌, subst}
 use Rattle.std.specs.Prelude.{option_map}
 use Rattle.std.specs.Bool.{MatchBool}
-use Rattle.std.specs.Option.{IsSome, IfSome, IfNone}
+use Rattle.std.specs.Option.{IsSome}
 use Rattle.std.proofs.lemmas.List.{get_or-map, length-map}
 use Rattle.archetype_store.specs.declared.store.ArchetypeStore.TheInside.{Inside}
-use Rattle.std.specs.List.{list_any, cons_option}
+use Rattle.std.specs.List.{list_any}
 use Rattle.ent_types.specs.declared.value.Value.{Value}
 use Rattle.std.specs.Cmp.Lexicographic.{pointwise}
 use Rattle.std.specs.Cmp.{signed_Decides}
@@ -13,8 +13,6 @@ use Rattle.world_model.specs.Part.{PartOf, same_part, same_value}
 use Rattle.ent_types.specs.declared.value.Value.TheVariants.{Int, Ref}
 use Rattle.world_model.specs.World.{capacity}
 use Rattle.std.proofs.lemmas.Bool.{eq-eqb, lt-ltb}
-use Rattle.archetype_store.specs.Holding.{parts_of}
-use Rattle.shared_values.specs.declared.table.Slot.{Slot as Interned}
 use Rattle.archetype_store.specs.declared.slots.Held.{Held}
 use Rattle.archetype_store.specs.Slots.{slot_at, number_if}
 use Rattle.archetype_store.specs.Stores.{Numbered, StoreState, has_room, is_full, IsFirstWithRoom, new_numbered, registry_of, types_at}

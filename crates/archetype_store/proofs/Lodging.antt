@@ -1,10 +1,10 @@
 -- The homes of a store after a row came or left, and after a block came or went.
-use Rattle.std.proofs.Common.{◌≡◌, ◌≢◌, ℕ, zero, suc, ◌+◌, ◌<◌, ◌≤◌, inl, inr, Bool, true, false, not, cond, ◌&&◌, ◌||◌, nat_eq, nat_lt, List, [], ◌∷◌, ◌++◌, length, get_or, set, map, Option, Some, None, refl, sym, ap, ◌∙◌, subst, arith}
-use Rattle.std.specs.Prelude.{option_map, count_by}
+use Rattle.std.proofs.Common.{◌≡◌, ◌≢◌, ℕ, ◌+◌, ◌<◌, ◌≤◌, inl, inr, Bool, true, false, not, cond, ◌&&◌, ◌||◌, nat_eq, nat_lt, List, [], ◌∷◌, ◌++◌, length, get_or, set, Option, Some, None, refl, sym, ap, ◌∙◌, subst, arith}
+use Rattle.std.specs.Prelude.{option_map}
 use Rattle.std.specs.List.{sum_by}
 use Rattle.std.specs.Vec.{vec_capacity}
 use Rattle.std.specs.HashMap.{get}
-use Rattle.std.proofs.lemmas.Bool.{cases_eq, cases_lt, eq-eqb, false≢true, lt-ltb, le-ltb, ne_eqb}
+use Rattle.std.proofs.lemmas.Bool.{cases_lt, eq-eqb, false≢true, lt-ltb, le-ltb, ne_eqb}
 use Rattle.std.proofs.lemmas.List.{get_or-map, get_or-set_same, get_or-set_other, get_or_past, get_or_append_left, length-map, length-append, map-set, map-append}
 use Rattle.std.proofs.lemmas.List.Sums.{sum_by-append, sum_by-set, count_by-le-length}
 use Rattle.std.proofs.Math.Seq.{get_or-append_seam}
@@ -18,11 +18,11 @@ use Rattle.archetype_store.specs.declared.store.ArchetypeStore.TheInside.{Inside
 use Rattle.archetype_store.specs.HomeKeys.{same_home}
 use Rattle.archetype_store.specs.Homes.{AreFew, AreHomes, HomeState, IsHomeFor, Lodger, LosesRank, NotesRoom, TakesRank, has_rank, home_at, home_state, homes_of, is_crowded, is_roomy, is_roomy_at, key_of, lodger, lodgers, no_home}
 use Rattle.archetype_store.specs.Slots.{slot_at, put_slot}
-use Rattle.archetype_store.specs.Inside.{beside, kept, IsConsistent}
+use Rattle.archetype_store.specs.Inside.{beside, IsConsistent}
 use Rattle.archetype_store.proofs.Orders.{below_of, none_some, put-other, put-same, some_is}
 use Rattle.archetype_store.proofs.Views.{slot-kept, slot-lodged}
 use Rattle.archetype_store.proofs.Ranks.{told-all}
-use Rattle.archetype_store.proofs.RankLists.{has-in, in-has, takes-last}
+use Rattle.archetype_store.proofs.RankLists.{in-has, takes-last}
 use Rattle.archetype_store.proofs.Lodged.{changed, home-below}
 
 -- no home has too many blocks

@@ -1,12 +1,12 @@
 -- Rising ranks with one more and with one less.
-use Rattle.std.proofs.Common.{◌≡◌, ◌≢◌, ◌⊎◌, ℕ, zero, suc, ◌+◌, ◌-◌, ◌<◌, ◌≤◌, nat_lt, set, inl, inr, Bool, true, false, not, cond, ◌&&◌, ◌||◌, nat_eq, List, [], ◌∷◌, ◌++◌, length, get_or, map, filter, Option, Some, None, refl, sym, ap, ◌∙◌, subst, arith}
+use Rattle.std.proofs.Common.{◌≡◌, ◌≢◌, ◌⊎◌, ℕ, zero, suc, ◌+◌, ◌-◌, ◌<◌, ◌≤◌, nat_lt, set, inl, inr, Bool, true, false, not, cond, ◌&&◌, ◌||◌, nat_eq, List, [], ◌∷◌, ◌++◌, length, get_or, map, filter, refl, sym, ap, ◌∙◌, subst, arith}
 use Rattle.std.specs.List.{list_any, insert, remove, swap_remove}
-use Rattle.std.proofs.lemmas.Bool.{cases_eq, cases_lt, eq-eqb, ne_eqb, eqb-true, false≢true, le-ltb, lt-ltb}
+use Rattle.std.proofs.lemmas.Bool.{cases_eq, cases_lt, eq-eqb, ne_eqb, false≢true, le-ltb, lt-ltb}
 use Rattle.std.proofs.lemmas.List.{length-append, length-set, length-take}
 use Rattle.std.proofs.lemmas.List.Folds.{list_any-append}
 use Rattle.std.proofs.lemmas.List.Sorted.{IsPermutation-insert, IsPermutation-remove, list_any-IsPermutation, length_permutation}
 use Rattle.world_model.specs.Members.{In, IsRising}
-use Rattle.archetype_store.specs.Homes.{has_rank, TakesRank, LosesRank}
+use Rattle.archetype_store.specs.Homes.{TakesRank, LosesRank}
 use Rattle.archetype_store.proofs.Ranks.{at-in, in-at, removed-is, rising-at}
 
 pub has-in : (r : ℕ) (xs : List ℕ) → list_any (nat_eq r) xs ≡ true → In r xs

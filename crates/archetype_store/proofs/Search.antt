@@ -1,31 +1,31 @@
 -- The first block with room is found by the ids of its shared values.
-use Rattle.std.proofs.Common.{◌≡◌, ◌≢◌, ℕ, zero, suc, ◌+◌, ◌<◌, ◌≤◌, inl, inr, Bool, true, false, not, cond, ◌&&◌, ◌||◌, nat_eq, nat_lt, List, [], ◌∷◌, length, map, Option, Some, None, refl, sym, ap, ap₂, ◌∙◌, subst, arith}
+use Rattle.std.proofs.Common.{◌≡◌, ℕ, zero, suc, ◌+◌, ◌≤◌, inl, Bool, true, false, not, ◌&&◌, ◌||◌, nat_eq, nat_lt, List, [], ◌∷◌, length, Option, Some, None, refl, sym, ap, ap₂, ◌∙◌, subst, arith}
 use Rattle.std.specs.Prelude.{option_map, MatchOption}
 use Rattle.std.specs.Bool.{MatchBool, Decides}
 use Rattle.std.specs.Cmp.{signed_Decides, unsigned_Decides}
 use Rattle.std.specs.Cmp.Lexicographic.{pointwise}
 use Rattle.std.specs.HashMap.{get}
 use Rattle.std.specs.List.{list_any, cons_option}
-use Rattle.std.proofs.lemmas.Bool.{cases_Bool, eq-eqb, eqb-true, false≢true, false_from_ne_true}
+use Rattle.std.proofs.lemmas.Bool.{eq-eqb, eqb-true, false≢true, false_from_ne_true}
 use Rattle.std.proofs.lemmas.Bool.Decides.{Decides-and}
 use Rattle.std.proofs.lemmas.Slice.Eq.{slice_eq-Decides}
 use Rattle.ent_types.specs.declared.entity.Entity.{Entity}
 use Rattle.ent_types.specs.declared.value.Value.{Value}
 use Rattle.ent_types.specs.declared.value.Value.TheVariants.{Int, Ref}
-use Rattle.world_model.specs.Members.{In, IsRising}
+use Rattle.world_model.specs.Members.{IsRising}
 use Rattle.world_model.specs.Part.{PartOf, same_entity, same_part, same_value}
 use Rattle.shared_values.specs.declared.table.Slot.{Slot as Interned}
-use Rattle.shared_values.specs.Holds.{AreOneEach, StandsFor, values_of, type_of}
+use Rattle.shared_values.specs.Holds.{AreOneEach}
 use Rattle.archetype_store.specs.declared.shared_parts.SharedPart.{SharedPart}
 use Rattle.archetype_store.specs.declared.homes.HomeKey.{HomeKey}
 use Rattle.archetype_store.specs.declared.slots.Held.{Held}
 use Rattle.archetype_store.specs.declared.store.ArchetypeStore.TheInside.{Inside}
-use Rattle.archetype_store.specs.Holding.{AreTyped, Backs, StandAll, ids_of, parts_of, part_of}
+use Rattle.archetype_store.specs.Holding.{AreTyped, Backs, StandAll, ids_of, parts_of}
 use Rattle.archetype_store.specs.HomeKeys.{same_home}
-use Rattle.archetype_store.specs.Homes.{AreHomes, HomeState, Lodger, first_number, has_rank, home_at, homes_of, is_roomy, is_roomy_at, key_of, lodger, lodgers, number_at_first}
+use Rattle.archetype_store.specs.Homes.{first_number, has_rank, home_at, homes_of, is_roomy, is_roomy_at, key_of, lodger, lodgers, number_at_first}
 use Rattle.archetype_store.specs.Slots.{slot_at}
-use Rattle.archetype_store.specs.Stores.{StoreState, IsFirstWithRoom, has_room, is_full}
-use Rattle.archetype_store.specs.Inside.{Beside, beside, kept, numbered, blocks_in, view_of, IsConsistent}
+use Rattle.archetype_store.specs.Stores.{IsFirstWithRoom, has_room, is_full}
+use Rattle.archetype_store.specs.Inside.{Beside, beside, kept, numbered, blocks_in, IsConsistent}
 use Rattle.archetype_store.proofs.Holding.{held_of}
 use Rattle.archetype_store.proofs.Orders.{some_is, none_some}
 use Rattle.archetype_store.proofs.Views.{slot-kept, slot-lodged}

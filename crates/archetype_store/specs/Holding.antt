@@ -1,5 +1,5 @@
 -- Ids of shared values that blocks hold.
-use Rattle.std.specs.Prelude.{ℕ, ◌≡◌, ◌<◌, ◌≤◌, ◌+◌, min, nat_eq, Bool, List, [], ◌∷◌, ◌++◌, map, Option, Some, None}
+use Rattle.std.specs.Prelude.{ℕ, ◌≡◌, ◌≤◌, min, Bool, List, [], ◌∷◌, ◌++◌, map, Option, Some, None}
 use Rattle.std.specs.Bool.{MatchBool}
 use Rattle.ent_types.specs.declared.value.Value.{Value}
 use Rattle.world_model.specs.Members.{In}

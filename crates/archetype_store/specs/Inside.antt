@@ -1,11 +1,8 @@
 -- A store as it is kept: a slot for each number, the numbers in block order, and the interned values.
-use Rattle.std.specs.Prelude.{ℕ, ◌≡◌, ◌<◌, ◌≤◌, ◌+◌, Bool, false, ◌&&◌, nat_lt, nat_eq, List, [], ◌∷◌, length, map, Option, Some, None, option_map, option_and_then, slice_index_or, count_by, is_some, unwrap_or}
+use Rattle.std.specs.Prelude.{ℕ, ◌≡◌, ◌<◌, ◌≤◌, ◌+◌, nat_eq, List, [], ◌∷◌, length, map, Option, Some, None, option_map, option_and_then, slice_index_or, count_by, is_some, unwrap_or}
 use Rattle.std.specs.List.{filter_map}
 use Rattle.std.specs.Option.{IsSome}
 use Rattle.std.specs.Vec.{vec_capacity}
-use Rattle.std.specs.Cmp.Lexicographic.{pointwise}
-use Rattle.ent_types.specs.declared.value.Value.{Value}
-use Rattle.world_model.specs.Part.{PartOf, same_part}
 use Rattle.ent_types.specs.declared.type_info.TypeInfo.{TypeInfo}
 use Rattle.world_model.specs.World.{capacity}
 use Rattle.block_columns.specs.declared.shape.TypeShape.{TypeShape}

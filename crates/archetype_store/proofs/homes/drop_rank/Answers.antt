@@ -1,7 +1,6 @@
-use Rattle.std.proofs.Common.{◌≡◌, List, ℕ, Ok, Err, sym, ap, ◌∙◌, subst, arith}
-use Rattle.std.specs.List.{remove}
+use Rattle.std.proofs.Common.{List, ℕ, Ok, Err, sym, subst}
 use Rattle.std.proofs.lemmas.List.Sorted.{searched}
-use Rattle.archetype_store.specs.Homes.{LosesRank, has_rank}
+use Rattle.archetype_store.specs.Homes.{LosesRank}
 use Rattle.archetype_store.proofs.RankLists.{has-not, loses-rank, ordered}
 use Rattle.archetype_store.proofs.homes.drop_rank.Goals as goal
 

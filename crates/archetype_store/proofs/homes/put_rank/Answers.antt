@@ -2,7 +2,7 @@ use Rattle.std.proofs.Common.{◌≡◌, List, ℕ, Ok, Err, cond, sym, ap, ◌�
 use Rattle.std.specs.List.{insert}
 use Rattle.std.proofs.lemmas.Bool.{false≢true}
 use Rattle.std.proofs.lemmas.List.Sorted.{searched}
-use Rattle.archetype_store.specs.Homes.{TakesRank, has_rank}
+use Rattle.archetype_store.specs.Homes.{TakesRank}
 use Rattle.archetype_store.proofs.RankLists.{has-at, ordered, takes-rank}
 use Rattle.archetype_store.proofs.homes.put_rank.Goals as goal
 

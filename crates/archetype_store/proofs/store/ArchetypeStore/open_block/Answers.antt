@@ -1,4 +1,4 @@
-use Rattle.std.proofs.Common.{◌≡◌, ℕ, List, Option, true, map, sym, ap, ◌∙◌, subst}
+use Rattle.std.proofs.Common.{◌≡◌, ℕ, List, true, map, sym, ap, ◌∙◌, subst}
 use Rattle.std.specs.Prelude.{MatchOption, option_map}
 use Rattle.std.specs.HashMap.{get}
 use Rattle.ent_types.specs.declared.value.Value.{Value}
