@@ -1,8 +1,7 @@
 -- A store with one block more, and with one block less.
-use Rattle.std.proofs.Common.{Vec, Global, get_or, zero, suc, ◌≡◌, ◌≢◌, ℕ, ◌+◌, ◌<◌, ◌≤◌, min, inl, inr, Bool, true, false, not, ◌||◌, ◌&&◌, cond, nat_eq, nat_lt, List, [], ◌∷◌, ◌++◌, length, set, map, filter, Option, Some, None, refl, sym, ap, ◌∙◌, subst, arith}
+use Rattle.std.proofs.Common.{Vec, Global, get_or, zero, suc, ◌≡◌, ◌≢◌, ℕ, ◌+◌, ◌<◌, ◌≤◌, inl, inr, Bool, false, not, ◌||◌, cond, nat_eq, List, [], ◌∷◌, ◌++◌, length, set, map, filter, Option, Some, None, refl, sym, ap, ◌∙◌, subst, arith}
 use Rattle.std.specs.Prelude.{option_map, count_by, is_some, unwrap_or}
-use Rattle.std.specs.Cmp.Lexicographic.{pointwise}
-use Rattle.std.proofs.lemmas.Bool.{false≢true, cases_eq, cases_lt, lt-ltb, le-ltb, eq-eqb, ne_eqb}
+use Rattle.std.proofs.lemmas.Bool.{cases_eq, cases_lt, lt-ltb, le-ltb, eq-eqb, ne_eqb}
 use Rattle.std.proofs.lemmas.List.{get_or-set_same, get_or-set_other, length-set, length-map, length-append, map-set, map-append, append-nil, get_or-map}
 use Rattle.std.proofs.Math.Seq.{map-set_same}
 use Rattle.std.specs.List.{cons_option, list_any}
@@ -20,21 +19,20 @@ use Rattle.world_model.specs.World.{capacity}
 use Rattle.shared_values.specs.declared.table.Slot.{Slot as Interned}
 use Rattle.archetype_store.specs.declared.numbers.TheConstants.{MOST_NUMBERS}
 use Rattle.archetype_store.specs.declared.slots.Held.{Held}
-use Rattle.archetype_store.specs.Times.{times}
-use Rattle.archetype_store.specs.Holding.{most_holds, Backs, KeepsValues, ids_of, parts_of}
+use Rattle.archetype_store.specs.Holding.{Backs, KeepsValues, ids_of, parts_of}
 use Rattle.world_model.specs.Members.{In}
 use Rattle.archetype_store.specs.declared.store.ArchetypeStore.TheInside.{Inside}
 use Rattle.archetype_store.proofs.Holding.{in-left, in-right, parts-kept-by}
-use Rattle.archetype_store.specs.Slots.{of_slot, slot_at, put_slot, free_at, AreFree, AreOrdered, IsFreeAt, number_if, numbers_of}
-use Rattle.archetype_store.specs.Stores.{types_at, shared_types}
-use Rattle.archetype_store.specs.Inside.{Beside, beside, kept, all_ids, members_at, members_of, IsOfArchetype, IsOrderly, IsConsistent, AreApart, numbered, numbered_at, blocks_in}
+use Rattle.archetype_store.specs.Slots.{of_slot, slot_at, put_slot, free_at, AreFree, AreOrdered, number_if, numbers_of}
+use Rattle.archetype_store.specs.Stores.{AreApart, types_at, shared_types}
+use Rattle.archetype_store.specs.Inside.{Beside, beside, kept, all_ids, members_at, members_of, IsOfArchetype, IsOrderly, IsConsistent, numbered, numbered_at, blocks_in}
 use Rattle.archetype_store.proofs.Times.{times-append}
 use Rattle.archetype_store.proofs.Orders.{some_is, none_some, put-same, put-other, ordered-put, placed-put, numbers-put, ordered-gone, placed-gone, numbers-gone, count-put, count-gone, times-put, times-gone, free-pushed, numbers-lack, below_of}
 use Rattle.std.proofs.lemmas.List.Sums.{sum_by-append}
 use Rattle.archetype_store.proofs.Views.{slot-kept}
 
 -- an id of a block is among those of all
-among : (slots : List (Option Beside)) (n : ℕ) (x : Beside) → slot_at slots n ≡ Some x → (id : ℕ) → In id (ids_of x.shared) → In id (all_ids slots)
+pub among : (slots : List (Option Beside)) (n : ℕ) (x : Beside) → slot_at slots n ≡ Some x → (id : ℕ) → In id (ids_of x.shared) → In id (all_ids slots)
 among [] n x at id is = absurd (none_some x at)
 among (o ∷ os) zero x at id is = in-left id (ids_in o) (all_ids os) (subst (λ p. In id (ids_in p)) (sym at) is)
   where
@@ -229,7 +227,7 @@ module _ (s : Inside) (consistent : IsConsistent s) (a : ℕ) (v d : Vec ℕ Glo
       (subst (λ o. IsOrderly s.registry s.archetypes.items (map (λ (w : Vec ℕ Global). w.items) s.members.items) (kept slots) free room o table) (sym order_is)
       (subst (λ f. IsOrderly s.registry s.archetypes.items (map (λ (w : Vec ℕ Global). w.items) s.members.items) (kept slots) f room s.order.items table) (sym free_are)
       (subst (λ k. IsOrderly s.registry s.archetypes.items (map (λ (w : Vec ℕ Global). w.items) s.members.items) (kept k) s.free.items room s.order.items table) (sym slots_are)
-      (orderly-more s.registry s.archetypes.items (map (λ (w : Vec ℕ Global). w.items) s.members.items) (kept s.slots.items) s.free.items (vec_capacity s.free) s.order.items s.shared consistent room table more backs))))
+      (orderly-more s.registry s.archetypes.items (map (λ (w : Vec ℕ Global). w.items) s.members.items) (kept s.slots.items) s.free.items (vec_capacity s.free) s.order.items s.shared consistent.0 room table more backs))))
 
 parts-one : (slots : List (Option Held)) (old new : List Interned) (m : ℕ) (h : Held) → KeepsValues old new (all_ids (kept slots)) → slot_at (kept slots) m ≡ Some (beside h)
     → parts_of new h.shared.items ≡ parts_of old h.shared.items
@@ -269,7 +267,7 @@ order-there slots order ordered k n at = by (slot_at slots n) (slot-kept slots n
 
 -- ---- what is added
 
-types-of-parts : (table : List Interned) (ps : List SharedPart) → map part_type (parts_of table ps) ≡ map (λ p. p.ty.0) ps
+pub types-of-parts : (table : List Interned) (ps : List SharedPart) → map part_type (parts_of table ps) ≡ map (λ p. p.ty.0) ps
 types-of-parts table [] = refl
 types-of-parts table (p ∷ ps) = ap (λ ts. p.ty.0 ∷ ts) (types-of-parts table ps)
 

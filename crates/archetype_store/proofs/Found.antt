@@ -1,11 +1,11 @@
 -- The first block that has room.
-use Rattle.std.proofs.Common.{Vec, Global, get_or, arith, ◌≡◌, ◌≢◌, ℕ, ◌<◌, Bool, true, false, not, cond, ◌&&◌, ◌||◌, nat_eq, nat_lt, List, [], ◌∷◌, ◌++◌, length, map, find, Option, Some, None, refl, sym, ap, ◌∙◌, subst}
+use Rattle.std.proofs.Common.{Vec, Global, get_or, arith, ◌≡◌, ℕ, ◌<◌, Bool, true, false, not, cond, ◌&&◌, ◌||◌, nat_eq, nat_lt, List, [], ◌∷◌, ◌++◌, length, Option, Some, None, refl, sym, ap, ◌∙◌, subst}
 use Rattle.std.specs.Prelude.{option_map}
 use Rattle.std.specs.Bool.{MatchBool}
-use Rattle.std.specs.Option.{IsSome, IfSome, IfNone}
+use Rattle.std.specs.Option.{IsSome}
 use Rattle.std.proofs.lemmas.List.{get_or-map, length-map}
 use Rattle.archetype_store.specs.declared.store.ArchetypeStore.TheInside.{Inside}
-use Rattle.std.specs.List.{list_any, filter_map, cons_option}
+use Rattle.std.specs.List.{list_any}
 use Rattle.ent_types.specs.declared.value.Value.{Value}
 use Rattle.std.specs.Cmp.Lexicographic.{pointwise}
 use Rattle.std.specs.Cmp.{signed_Decides}
@@ -13,13 +13,10 @@ use Rattle.world_model.specs.Part.{PartOf, same_part, same_value}
 use Rattle.ent_types.specs.declared.value.Value.TheVariants.{Int, Ref}
 use Rattle.world_model.specs.World.{capacity}
 use Rattle.std.proofs.lemmas.Bool.{eq-eqb, lt-ltb}
-use Rattle.archetype_store.specs.Holding.{parts_of}
-use Rattle.shared_values.specs.declared.table.Slot.{Slot as Interned}
 use Rattle.archetype_store.specs.declared.slots.Held.{Held}
-use Rattle.archetype_store.specs.Slots.{slot_at, number_if, number_of, numbers_of}
-use Rattle.archetype_store.specs.Stores.{Numbered, StoreState, has_room, is_full, IsFirstWithRoom, Adds, Opens, HasBlocks, new_numbered, registry_of, types_at}
-use Rattle.archetype_store.specs.Inside.{Beside, beside, kept, numbered, blocks_in, members_of, is_open, open_of, AreUsed, IsConsistent, view_of}
-use Rattle.archetype_store.proofs.Orders.{some_is, none_some}
+use Rattle.archetype_store.specs.Slots.{slot_at, number_if}
+use Rattle.archetype_store.specs.Stores.{Numbered, StoreState, has_room, is_full, IsFirstWithRoom, new_numbered, registry_of, types_at}
+use Rattle.archetype_store.specs.Inside.{beside, kept, members_of, AreUsed, IsConsistent}
 use Rattle.archetype_store.proofs.Views.{slot-kept}
 
 -- the numbers of an archetype have blocks
@@ -36,60 +33,6 @@ used-members slots a (Some m ∷ os) = by (slot_at slots m) (slot-kept slots m) 
         of : (b : Bool) → AreUsed slots ((cond b (m ∷ []) []) ++ members_of (kept slots) a os)
         of true = (subst IsSome (sym at) refl, rest)
         of false = rest
-
-module _ (slots : List (Option Held)) (table : List Interned) (a : ℕ) (parts : List (PartOf Value)) where
-  -- what a number of the order adds to the members and to the blocks
-  here : (m : ℕ) (os : List (Option ℕ)) (P : List ℕ → List Numbered → Type 0) → (slot_at slots m ≡ None → P (members_of (kept slots) a os) (blocks_in slots table os))
-      → ((h : Held) → slot_at slots m ≡ Some h → P ((cond (nat_eq h.archetype a) (m ∷ []) []) ++ members_of (kept slots) a os) (numbered table m h ∷ blocks_in slots table os))
-      → P (members_of (kept slots) a (Some m ∷ os)) (blocks_in slots table (Some m ∷ os))
-  here m os P none some = by (slot_at slots m) refl (slot-kept slots m)
-    where
-      by : (o : Option Held) → slot_at slots m ≡ o → slot_at (kept slots) m ≡ option_map beside (slot_at slots m) → P (members_of (kept slots) a (Some m ∷ os)) (blocks_in slots table (Some m ∷ os))
-      by None at is =
-          subst (λ o. P (number_if (λ x. nat_eq x.archetype a) m o ++ members_of (kept slots) a os) (blocks_in slots table (Some m ∷ os))) (sym (is ∙ ap (option_map beside) at))
-          (subst (λ o. P (members_of (kept slots) a os) (cons_option (option_map (numbered table m) o) (blocks_in slots table os))) (sym at) (none at))
-      by (Some h) at is =
-          subst (λ o. P (number_if (λ x. nat_eq x.archetype a) m o ++ members_of (kept slots) a os) (blocks_in slots table (Some m ∷ os))) (sym (is ∙ ap (option_map beside) at))
-          (subst (λ o. P ((cond (nat_eq h.archetype a) (m ∷ []) []) ++ members_of (kept slots) a os) (cons_option (option_map (numbered table m) o) (blocks_in slots table os))) (sym at) (some h at))
-
-  -- what is said of the members is said of the blocks
-  abbrev Says : Option ℕ → List Numbered → Type 0
-  Says None bs = list_any (has_room a parts) bs ≡ false
-  Says (Some n) bs = IsFirstWithRoom a parts n bs
-
-  abbrev open_here : Held → Bool
-  open_here h = nat_lt (length h.block.rows) h.block.capacity && pointwise same_part parts (parts_of table h.shared.items)
-
-  pub first-says : (order : List (Option ℕ)) → Says (find (is_open slots table parts) (members_of (kept slots) a order)) (blocks_in slots table order)
-  first-says [] = refl
-  first-says (None ∷ os) = first-says os
-  first-says (Some m ∷ os) = here m os (λ ns bs. Says (find (is_open slots table parts) ns) bs) (λ at. first-says os) (λ h at. step h at (first-says os))
-    where
-      step : (h : Held) → slot_at slots m ≡ Some h → Says (find (is_open slots table parts) (members_of (kept slots) a os)) (blocks_in slots table os)
-          → Says (find (is_open slots table parts) ((cond (nat_eq h.archetype a) (m ∷ []) []) ++ members_of (kept slots) a os)) (numbered table m h ∷ blocks_in slots table os)
-      step h at rest = by (nat_eq h.archetype a) refl
-        where
-          open_is : is_open slots table parts m ≡ open_here h
-          open_is = opened (slot_at slots m) at
-            where
-              opened : (o : Option Held) → o ≡ Some h → open_of table parts o ≡ open_here h
-              opened o is = ap (open_of table parts) is
-
-          skip : (b : Bool) → b ≡ false → has_room a parts (numbered table m h) ≡ b → (r : Option ℕ) → Says r (blocks_in slots table os) → Says r (numbered table m h ∷ blocks_in slots table os)
-          skip b fails room None says = ap (λ t. t || list_any (has_room a parts) (blocks_in slots table os)) (room ∙ fails) ∙ says
-          skip b fails room (Some n) says = subst (λ t. MatchBool t (m ≡ n) (IsFirstWithRoom a parts n (blocks_in slots table os))) (sym (room ∙ fails)) says
-
-          by : (b : Bool) → nat_eq h.archetype a ≡ b → Says (find (is_open slots table parts) ((cond b (m ∷ []) []) ++ members_of (kept slots) a os)) (numbered table m h ∷ blocks_in slots table os)
-          by false is = skip false refl (ap (λ t. t && open_here h) is) (find (is_open slots table parts) (members_of (kept slots) a os)) rest
-          by true is = of (open_here h) refl
-            where
-              of : (b : Bool) → open_here h ≡ b → Says (find (is_open slots table parts) (m ∷ members_of (kept slots) a os)) (numbered table m h ∷ blocks_in slots table os)
-              of true holds =
-                  subst (λ t. Says (cond t (Some m) (find (is_open slots table parts) (members_of (kept slots) a os))) (numbered table m h ∷ blocks_in slots table os)) (sym (open_is ∙ holds))
-                  (subst (λ t. MatchBool t (m ≡ m) (IsFirstWithRoom a parts m (blocks_in slots table os))) (sym (ap (λ t. t && open_here h) is ∙ holds)) refl)
-              of false fails =
-                  subst (λ t. Says (cond t (Some m) (find (is_open slots table parts) (members_of (kept slots) a os))) (numbered table m h ∷ blocks_in slots table os)) (sym (open_is ∙ fails))
-                  (skip false refl (ap (λ t. t && open_here h) is ∙ fails) (find (is_open slots table parts) (members_of (kept slots) a os)) rest)
 
 -- ---- of a store as contracts see it
 
@@ -115,25 +58,8 @@ first-added a parts new (b ∷ bs) full room = by (has_room a parts b) full (λ 
 -- the numbers that are kept for an archetype
 pub members-kept : (s : Inside) (v : Vec ℕ Global) (a : ℕ) → IsConsistent s → a < length s.archetypes.items → v ≡ get_or s.members.items a v → v.items ≡ members_of (kept s.slots.items) a s.order.items
 members-kept s v a consistent below at =
-    let there : a < length s.members.items = omega (arith, below, consistent.members_there, length-map s.members.items (λ (w : Vec ℕ Global). w.items)) in
-    ap (λ (w : Vec ℕ Global). w.items) at ∙ sym (get_or-map (λ (w : Vec ℕ Global). w.items) s.members.items a v [] there) ∙ consistent.members_are a below
-
--- what a search of these numbers says of the blocks
-pub says-some : (s : Inside) (store : StoreState) (a : ℕ) (parts : List (PartOf Value)) (r : Option ℕ) → view_of s ≡ store
-    → r ≡ find (is_open s.slots.items s.shared parts) (members_of (kept s.slots.items) a s.order.items) → IfSome r (λ n. IsFirstWithRoom a parts n store.blocks)
-says-some s store a parts r seen is = by r (subst (λ o. Says s.slots.items s.shared a parts o (blocks_in s.slots.items s.shared s.order.items)) (sym is) (first-says s.slots.items s.shared a parts s.order.items))
-  where
-    by : (o : Option ℕ) → Says s.slots.items s.shared a parts o (blocks_in s.slots.items s.shared s.order.items) → IfSome o (λ n. IsFirstWithRoom a parts n store.blocks)
-    by None says = tt
-    by (Some n) says = subst (λ (v : StoreState). IsFirstWithRoom a parts n v.blocks) seen says
-
-pub says-none : (s : Inside) (store : StoreState) (a : ℕ) (parts : List (PartOf Value)) (r : Option ℕ) → view_of s ≡ store
-    → r ≡ find (is_open s.slots.items s.shared parts) (members_of (kept s.slots.items) a s.order.items) → IfNone r (is_full a parts store.blocks ≡ true)
-says-none s store a parts r seen is = by r (subst (λ o. Says s.slots.items s.shared a parts o (blocks_in s.slots.items s.shared s.order.items)) (sym is) (first-says s.slots.items s.shared a parts s.order.items))
-  where
-    by : (o : Option ℕ) → Says s.slots.items s.shared a parts o (blocks_in s.slots.items s.shared s.order.items) → IfNone o (is_full a parts store.blocks ≡ true)
-    by (Some n) says = tt
-    by None says = subst (λ (v : StoreState). is_full a parts v.blocks ≡ true) seen (ap not says)
+    let there : a < length s.members.items = omega (arith, below, consistent.0.members_there, length-map s.members.items (λ (w : Vec ℕ Global). w.items)) in
+    ap (λ (w : Vec ℕ Global). w.items) at ∙ sym (get_or-map (λ (w : Vec ℕ Global). w.items) s.members.items a v [] there) ∙ consistent.0.members_are a below
 
 value_self : (v : Value) → same_value v v ≡ true
 value_self (Int x) = (signed_Decides x x).1 refl

@@ -1,12 +1,14 @@
 -- What holding and releasing an id does to the ids that are held.
-use Rattle.std.proofs.Common.{◌≡◌, ◌≢◌, ◌⊎◌, ℕ, ◌+◌, ◌-◌, ◌<◌, ◌≤◌, min, inl, inr, Bool, true, false, cond, nat_eq, List, [], ◌∷◌, ◌++◌, length, map, refl, sym, ap, ◌∙◌, subst, append_assoc, arith}
-use Rattle.std.proofs.lemmas.Bool.{cases_eq, eqb-true, eq-eqb, ne_eqb}
+use Rattle.std.proofs.Common.{◌≡◌, ◌≢◌, ℕ, ◌+◌, ◌-◌, ◌≤◌, min, inl, inr, true, cond, nat_eq, List, [], ◌∷◌, ◌++◌, refl, sym, ap, ◌∙◌, subst, append_assoc, arith}
+use Rattle.std.proofs.lemmas.Bool.{cases_eq, eq-eqb, ne_eqb}
 use Rattle.ent_types.specs.declared.value.Value.{Value}
-use Rattle.world_model.specs.Members.{In, tally, one_if}
+use Rattle.world_model.specs.Members.{In, one_if}
 use Rattle.world_model.specs.Part.{PartOf}
+use Rattle.shared_values.specs.declared.key.Key.{Key}
 use Rattle.shared_values.specs.declared.table.Slot.{Slot}
+use Rattle.shared_values.specs.declared.table.TheConstants.{MOST_HOLDS}
 use Rattle.shared_values.specs.Holds.{slot_at, vacant, holds_of, values_of, type_of, IsHeld, IsIdFor, ChangesTo, held_once_more, held_once_less}
-use Rattle.archetype_store.specs.Holding.{most_holds, Backs, KeepsValues, Holds, Releases, ids_of, parts_of, part_of}
+use Rattle.archetype_store.specs.Holding.{AreTyped, Backs, KeepsValues, Holds, Releases, ids_of, parts_of, part_of}
 use Rattle.archetype_store.specs.Times.{times}
 use Rattle.archetype_store.proofs.Times.{times-append}
 use Rattle.archetype_store.specs.declared.shared_parts.SharedPart.{SharedPart}
@@ -33,11 +35,11 @@ pub backs-held : (old new : List Slot) (ids : List ℕ) (id type_id : ℕ) (valu
     → ChangesTo old new id (held_once_more old id type_id values) → Backs new (id ∷ ids)
 backs-held old new ids id type_id values backs changes = record { holds = by }
   where
-    by : (other : ℕ) → min (times other (id ∷ ids)) most_holds ≤ holds_of new other
+    by : (other : ℕ) → min (times other (id ∷ ids)) MOST_HOLDS ≤ holds_of new other
     by other =
         elim (cases_eq other id) [
           | inl same ↦
-              let there : holds_of new other ≡ min (holds_of old id + 1) most_holds = ap (holds_of new) same ∙ ap (λ (s : Slot). s.holds) changes.there in
+              let there : holds_of new other ≡ min (holds_of old id + 1) MOST_HOLDS = ap (holds_of new) same ∙ ap (λ (s : Slot). s.holds) changes.there in
               let more : times other (id ∷ ids) ≡ times id ids + 1 = ap (λ x. times x (id ∷ ids)) same ∙ times-same id ids in
               omega (arith, there, more, backs.holds id)
           | inr apart ↦
@@ -47,7 +49,7 @@ backs-held old new ids id type_id values backs changes = record { holds = by }
 
 pub keeps-held : (old new : List Slot) (ids : List ℕ) (id type_id : ℕ) (values : List Value) → Backs old ids → IsIdFor old type_id values id
     → ChangesTo old new id (held_once_more old id type_id values) → KeepsValues old new ids
-keeps-held old new ids id type_id values backs answer changes = record { values = by }
+keeps-held old new ids id type_id values backs answer changes = record { values = by; types = by_type }
   where
     by : (other : ℕ) → In other ids → values_of new other ≡ values_of old other
     by other is =
@@ -58,29 +60,38 @@ keeps-held old new ids id type_id values backs answer changes = record { values 
           | inr apart ↦ ap (λ (s : Slot). s.key.values) (changes.others other apart)
         ]
 
+    by_type : (other : ℕ) → In other ids → type_of new other ≡ type_of old other
+    by_type other is =
+        elim (cases_eq other id) [
+          | inl same ↦
+              let held : IsHeld old id = subst (IsHeld old) same (held_of old ids other backs is) in
+              ap (type_of new) same ∙ ap (λ (s : Slot). s.key.ty.0) changes.there ∙ sym (answer.else_free held).type_is ∙ ap (type_of old) (sym same)
+          | inr apart ↦ ap (λ (s : Slot). s.key.ty.0) (changes.others other apart)
+        ]
+
 -- the values of the id that was given
 pub values-held : (old new : List Slot) (id type_id : ℕ) (values : List Value) → ChangesTo old new id (held_once_more old id type_id values) → values_of new id ≡ values
 values-held old new id type_id values changes = ap (λ (s : Slot). s.key.values) changes.there
 
 -- what a release leaves of a slot
-less : (slot : Slot) (t : ℕ) → min (t + 1) most_holds ≤ slot.holds → (min t most_holds ≤ (held_once_less slot).holds) × (1 ≤ t → (held_once_less slot).key.values ≡ slot.key.values)
+less : (slot : Slot) (t : ℕ) → min (t + 1) MOST_HOLDS ≤ slot.holds → (min t MOST_HOLDS ≤ (held_once_less slot).holds) × (1 ≤ t → (held_once_less slot).key ≡ slot.key)
 less slot t backs =
-    elim (cases_eq slot.holds most_holds) [
+    elim (cases_eq slot.holds MOST_HOLDS) [
       | inl most ↦
-          let is : held_once_less slot ≡ slot = ap (λ b. cond b slot (cond (nat_eq slot.holds 1) vacant (record slot { holds = slot.holds - 1 }))) (eq-eqb slot.holds most_holds most) in
-          (omega (arith, ap (λ (s : Slot). s.holds) is, most), λ _. ap (λ (s : Slot). s.key.values) is)
+          let is : held_once_less slot ≡ slot = ap (λ b. cond b slot (cond (nat_eq slot.holds 1) vacant (record slot { holds = slot.holds - 1 }))) (eq-eqb slot.holds MOST_HOLDS most) in
+          (omega (arith, ap (λ (s : Slot). s.holds) is, most), λ _. ap (λ (s : Slot). s.key) is)
       | inr fewer ↦
           elim (cases_eq slot.holds 1) [
             | inl one ↦
                 let is : held_once_less slot ≡ vacant =
-                ap (λ b. cond b slot (cond (nat_eq slot.holds 1) vacant (record slot { holds = slot.holds - 1 }))) (ne_eqb slot.holds most_holds fewer)
+                ap (λ b. cond b slot (cond (nat_eq slot.holds 1) vacant (record slot { holds = slot.holds - 1 }))) (ne_eqb slot.holds MOST_HOLDS fewer)
                 ∙ ap (λ b. cond b vacant (record slot { holds = slot.holds - 1 })) (eq-eqb slot.holds 1 one) in
                 (omega (arith, ap (λ (s : Slot). s.holds) is, one, backs), λ some. absurd (omega (arith, one, backs, some)))
             | inr more ↦
                 let is : held_once_less slot ≡ record slot { holds = slot.holds - 1 } =
-                ap (λ b. cond b slot (cond (nat_eq slot.holds 1) vacant (record slot { holds = slot.holds - 1 }))) (ne_eqb slot.holds most_holds fewer)
+                ap (λ b. cond b slot (cond (nat_eq slot.holds 1) vacant (record slot { holds = slot.holds - 1 }))) (ne_eqb slot.holds MOST_HOLDS fewer)
                 ∙ ap (λ b. cond b vacant (record slot { holds = slot.holds - 1 })) (ne_eqb slot.holds 1 more) in
-                (omega (arith, ap (λ (s : Slot). s.holds) is, backs), λ _. ap (λ (s : Slot). s.key.values) is)
+                (omega (arith, ap (λ (s : Slot). s.holds) is, backs), λ _. ap (λ (s : Slot). s.key) is)
           ]
     ]
 
@@ -88,12 +99,12 @@ less slot t backs =
 pub backs-released : (old new : List Slot) (ids : List ℕ) (id : ℕ) → Backs old (id ∷ ids) → ChangesTo old new id (held_once_less (slot_at old id)) → Backs new ids
 backs-released old new ids id backs changes = record { holds = by }
   where
-    by : (other : ℕ) → min (times other ids) most_holds ≤ holds_of new other
+    by : (other : ℕ) → min (times other ids) MOST_HOLDS ≤ holds_of new other
     by other =
         elim (cases_eq other id) [
           | inl same ↦
               let there : holds_of new other ≡ (held_once_less (slot_at old id)).holds = ap (holds_of new) same ∙ ap (λ (s : Slot). s.holds) changes.there in
-              let was : min (times id ids + 1) most_holds ≤ (slot_at old id).holds = omega (arith, backs.holds id, times-same id ids) in
+              let was : min (times id ids + 1) MOST_HOLDS ≤ (slot_at old id).holds = omega (arith, backs.holds id, times-same id ids) in
               let count : times other ids ≡ times id ids = ap (λ x. times x ids) same in
               omega (arith, there, count, (less (slot_at old id) (times id ids) was).0)
           | inr apart ↦
@@ -102,16 +113,19 @@ backs-released old new ids id backs changes = record { holds = by }
         ]
 
 pub keeps-released : (old new : List Slot) (ids : List ℕ) (id : ℕ) → Backs old (id ∷ ids) → ChangesTo old new id (held_once_less (slot_at old id)) → KeepsValues old new ids
-keeps-released old new ids id backs changes = record { values = by }
+keeps-released old new ids id backs changes = record { values = λ other is. ap (λ (k : Key). k.values) (by other is); types = λ other is. ap (λ (k : Key). k.ty.0) (by other is) }
   where
-    by : (other : ℕ) → In other ids → values_of new other ≡ values_of old other
+    key_at : List Slot → ℕ → Key
+    key_at slots i = (slot_at slots i).key
+
+    by : (other : ℕ) → In other ids → (slot_at new other).key ≡ (slot_at old other).key
     by other is =
         elim (cases_eq other id) [
           | inl same ↦
-              let was : min (times id ids + 1) most_holds ≤ (slot_at old id).holds = omega (arith, backs.holds id, times-same id ids) in
+              let was : min (times id ids + 1) MOST_HOLDS ≤ (slot_at old id).holds = omega (arith, backs.holds id, times-same id ids) in
               let some : 1 ≤ times id ids = subst (λ x. 1 ≤ times x ids) same (times-in other ids is) in
-              ap (values_of new) same ∙ ap (λ (s : Slot). s.key.values) changes.there ∙ (less (slot_at old id) (times id ids) was).1 some ∙ ap (values_of old) (sym same)
-          | inr apart ↦ ap (λ (s : Slot). s.key.values) (changes.others other apart)
+              ap (key_at new) same ∙ ap (λ (s : Slot). s.key) changes.there ∙ (less (slot_at old id) (times id ids) was).1 some ∙ ap (key_at old) (sym same)
+          | inr apart ↦ ap (λ (s : Slot). s.key) (changes.others other apart)
         ]
 
 -- ---- ids in another order
@@ -147,11 +161,11 @@ parts-kept old new (p ∷ ps) before after keeps =
     ap (λ part. part ∷ parts_of new ps) here ∙ ap (λ parts. part_of old p ∷ parts) (parts-kept old new ps (before ++ p.id ∷ []) after rest)
 
 pub keeps-both : (old mid new : List Slot) (ids : List ℕ) → KeepsValues old mid ids → KeepsValues mid new ids → KeepsValues old new ids
-keeps-both old mid new ids first second = record { values = λ id is. second.values id is ∙ first.values id is }
+keeps-both old mid new ids first second = record { values = λ id is. second.values id is ∙ first.values id is; types = λ id is. second.types id is ∙ first.types id is }
 
 -- fewer ids keep their values too
 pub keeps-right : (old new : List Slot) (xs ys : List ℕ) → KeepsValues old new (xs ++ ys) → KeepsValues old new ys
-keeps-right old new xs ys keeps = record { values = λ id is. keeps.values id (in-right id xs ys is) }
+keeps-right old new xs ys keeps = record { values = λ id is. keeps.values id (in-right id xs ys is); types = λ id is. keeps.types id (in-right id xs ys is) }
 
 pub releases-more : (old mid new : List Slot) (p : SharedPart) (rest : List SharedPart) → ChangesTo old mid p.id (held_once_less (slot_at old p.id)) → Releases mid new rest
     → Releases old new (p ∷ rest)
@@ -187,6 +201,9 @@ module _ (old mid new : List Slot) (before after : List SharedPart) (p : SharedP
           values = λ id is.
               then.keeps.values id (subst (In id) (sym apart) (widened id (ids_of before) others is))
               ∙ (keeps-held old mid (ids_of before ++ others) p.id p.ty.0 values backs answer changes).values id is;
+          types = λ id is.
+              then.keeps.types id (subst (In id) (sym apart) (widened id (ids_of before) others is))
+              ∙ (keeps-held old mid (ids_of before ++ others) p.id p.ty.0 values backs answer changes).types id is;
         };
       }
     where
@@ -221,3 +238,20 @@ parts-kept-by old new [] keeps = refl
 parts-kept-by old new (p ∷ ps) keeps =
     ap (λ part. part ∷ parts_of new ps) (ap (λ values. record { type_id = p.ty.0; values = values }) (keeps p.id (inl refl)))
     ∙ ap (λ parts. part_of old p ∷ parts) (parts-kept-by old new ps (λ id is. keeps id (inr is)))
+
+-- ---- types of ids
+
+pub typed-kept : (old new : List Slot) (ps : List SharedPart) → ((id : ℕ) → In id (ids_of ps) → type_of new id ≡ type_of old id) → AreTyped old ps → AreTyped new ps
+typed-kept old new [] keeps typed = tt
+typed-kept old new (p ∷ ps) keeps typed = (keeps p.id (inl refl) ∙ typed.0, typed-kept old new ps (λ id is. keeps id (inr is)) typed.1)
+
+pub typed-push : (table : List Slot) (ps : List SharedPart) (p : SharedPart) → AreTyped table ps → type_of table p.id ≡ p.ty.0 → AreTyped table (ps ++ p ∷ [])
+typed-push table [] p typed is = (is, tt)
+typed-push table (q ∷ qs) p typed is = (typed.0, typed-push table qs p typed.1 is)
+
+-- the parts are typed once an id was given for one more
+pub typed-given : (old mid : List Slot) (before : List SharedPart) (p : SharedPart) (values : List Value) → IsIdFor old p.ty.0 values p.id → ChangesTo old mid p.id (held_once_more old p.id p.ty.0 values)
+    → Backs old (ids_of before) → AreTyped old before → AreTyped mid (before ++ p ∷ [])
+typed-given old mid before p values answer changes backs typed =
+    typed-push mid before p (typed-kept old mid before (λ id is. (keeps-held old mid (ids_of before) p.id p.ty.0 values backs answer changes).types id is) typed)
+    (ap (λ (s : Slot). s.key.ty.0) changes.there)

@@ -1,5 +1,4 @@
 pub mod Times
-pub mod Values
 pub mod Holding
 pub mod Orders
 pub mod Views
@@ -7,3 +6,13 @@ pub mod Writes
 pub mod Shapes
 pub mod Added
 pub mod Found
+pub mod Ranks
+pub mod Removed
+pub mod Left
+pub mod Sound
+pub mod Reading
+pub mod RankLists
+pub mod Lodged
+pub mod Lodging
+pub mod Search
+pub mod Typed

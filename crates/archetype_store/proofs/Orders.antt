@@ -1,16 +1,16 @@
 -- A store with one block more, and with one block less.
-use Rattle.std.proofs.Common.{◌≡◌, ◌≢◌, ◌⊎◌, ℕ, zero, suc, ◌+◌, ◌<◌, ◌≤◌, inl, inr, Bool, true, false, not, cond, nat_eq, nat_lt, List, [], ◌∷◌, ◌++◌, length, set, map, filter, Option, Some, None, refl, sym, ap, ◌∙◌, subst, arith}
+use Rattle.std.proofs.Common.{◌≡◌, ◌≢◌, ℕ, zero, suc, ◌+◌, ◌<◌, ◌≤◌, inl, inr, Bool, true, false, not, cond, nat_eq, List, [], ◌∷◌, ◌++◌, length, set, filter, Option, Some, None, refl, sym, ap, ◌∙◌, subst, arith}
 use Rattle.std.specs.Prelude.{option_map, count_by, is_some}
-use Rattle.std.specs.List.{filter_map, cons_option, flat_map, sum_by}
+use Rattle.std.specs.List.{flat_map, sum_by}
 use Rattle.archetype_store.specs.Times.{times}
 use Rattle.archetype_store.proofs.Times.{times-append}
 use Rattle.std.proofs.lemmas.Bool.{cases_eq, cases_lt, eq-eqb, ne_eqb, lt-ltb, le-ltb}
-use Rattle.std.proofs.lemmas.List.{get_or-map, get_or_past, get_or-set_same, get_or-set_other, length-set, length-append, get_or_append_left, append-nil}
+use Rattle.std.proofs.lemmas.List.{get_or_past, get_or-set_same, get_or-set_other, length-set, length-append, get_or_append_left, append-nil}
 use Rattle.std.proofs.lemmas.Grind.{flat_map-append}
 use Rattle.std.proofs.lemmas.List.Sums.{sum_by-set, sum_by-append}
 use Rattle.std.proofs.lemmas.List.Recursion.{is_sum_by}
 use Rattle.std.proofs.Math.Seq.{get_or-append_seam}
-use Rattle.archetype_store.specs.Slots.{of_slot, of_slots, slot_at, put_slot, free_at, IsFreeAt, AreFree, AreOrdered, ArePlaced, number_if, number_of, numbers_of}
+use Rattle.archetype_store.specs.Slots.{of_slot, of_slots, slot_at, put_slot, free_at, AreFree, AreOrdered, ArePlaced, number_if, number_of, numbers_of}
 
 -- ---- slots of anything
 

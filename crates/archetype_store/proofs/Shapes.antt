@@ -1,10 +1,12 @@
 -- Lending leaves the types of a block as they are.
-use Rattle.std.proofs.Common.{◌≡◌, ℕ, Bool, true, false, cond, nat_eq, List, [], ◌∷◌, map, refl, ap, ◌∙◌}
+use Rattle.std.proofs.Common.{◌≡◌, ℕ, suc, ◌+◌, Bool, true, false, cond, nat_eq, List, [], ◌∷◌, length, map, refl, ap, ◌∙◌}
 use Rattle.std.specs.Prelude.{fold}
 use Rattle.ent_types.specs.TypeSets.{has_type}
-use Rattle.block_columns.specs.Types.{TypeState}
+use Rattle.world_model.specs.Row.{Row}
+use Rattle.block_columns.specs.Places.{at_places}
+use Rattle.block_columns.specs.Types.{TypeState, cell_in}
 use Rattle.block_columns.specs.declared.shape.TypeShape.{TypeShape}
-use Rattle.chunk_block.specs.Blocks.{BlockType, lent_type, given_type}
+use Rattle.chunk_block.specs.Blocks.{BlockType, changed, given_rows, lent_type, given_type}
 
 abbrev shapes : List BlockType → List TypeShape
 shapes columns = map (λ (x : BlockType). x.shape) columns
@@ -28,3 +30,12 @@ shapes-given-one (x ∷ xs) p = by (nat_eq x.shape.ty.0 p.shape.ty.0) (shapes-gi
 pub shapes-given : (pieces : List TypeState) (columns : List BlockType) → map (λ (x : BlockType). x.shape) (fold given_type columns pieces) ≡ map (λ (x : BlockType). x.shape) columns
 shapes-given [] columns = refl
 shapes-given (p ∷ ps) columns = shapes-given ps (given_type columns p) ∙ shapes-given-one columns p
+
+-- and its rows as many as they are
+pub rows-given : (pieces : List TypeState) (rows : List Row) → length (fold given_rows rows pieces) ≡ length rows
+rows-given [] rows = refl
+rows-given (p ∷ ps) rows = rows-given ps (given_rows rows p) ∙ places (λ k r. changed p.shape.ty.0 (λ _. cell_in k p.cells) r) 0 rows
+  where
+    places : (f : ℕ → Row → Row) (i : ℕ) (rs : List Row) → length (at_places f i rs) ≡ length rs
+    places f i [] = refl
+    places f i (r ∷ rs) = ap suc (places f (i + 1) rs)

@@ -1,18 +1,19 @@
 -- A store's blocks as they are kept and as contracts see them.
-use Rattle.std.proofs.Common.{◌≡◌, ◌≢◌, ℕ, ◌<◌, ◌≤◌, inl, inr, Bool, true, false, cond, nat_eq, List, [], ◌∷◌, ◌++◌, length, set, map, Option, Some, None, refl, sym, ap, ◌∙◌, subst, arith}
+use Rattle.std.proofs.Common.{◌≡◌, ◌≢◌, ℕ, inl, inr, cond, nat_eq, List, [], ◌∷◌, length, set, Option, Some, None, refl, sym, ap, ◌∙◌, subst, arith}
 use Rattle.std.specs.Prelude.{option_map}
 use Rattle.std.specs.Bool.{MatchBool}
-use Rattle.std.specs.List.{filter_map, cons_option}
-use Rattle.std.proofs.lemmas.Bool.{cases_eq, cases_lt, eq-eqb, ne_eqb, eqb-true}
+use Rattle.std.specs.List.{cons_option}
+use Rattle.std.proofs.lemmas.Bool.{cases_eq, cases_lt, eq-eqb, ne_eqb}
 use Rattle.std.proofs.lemmas.List.{get_or-map, length-map, get_or_past, get_or-set_same, get_or-set_other}
 use Rattle.std.proofs.Math.Seq.{map-set_same}
 use Rattle.chunk_block.specs.Blocks.{BlockState}
 use Rattle.shared_values.specs.declared.table.Slot.{Slot as Interned}
 use Rattle.archetype_store.specs.declared.slots.Held.{Held}
+use Rattle.archetype_store.specs.Homes.{lodger, lodgers}
 use Rattle.archetype_store.specs.Slots.{slot_at}
 use Rattle.archetype_store.specs.Stores.{Numbered, OfNumber, with_block}
 use Rattle.archetype_store.proofs.Orders.{below_of}
-use Rattle.archetype_store.specs.Inside.{Beside, beside, kept, numbered, numbered_at, blocks_in}
+use Rattle.archetype_store.specs.Inside.{beside, kept, numbered, blocks_in}
 
 pub slot-kept : (slots : List (Option Held)) (n : ℕ) → slot_at (kept slots) n ≡ option_map beside (slot_at slots n)
 slot-kept slots n =
@@ -20,6 +21,14 @@ slot-kept slots n =
       | inl below ↦ get_or-map (option_map beside) slots n None None below
       | inr past ↦
           get_or_past (kept slots) n None (omega (arith, length-map slots (option_map beside), past)) ∙ sym (ap (option_map beside) (get_or_past slots n None past))
+    ]
+
+pub slot-lodged : (slots : List (Option Held)) (n : ℕ) → slot_at (lodgers slots) n ≡ option_map lodger (slot_at slots n)
+slot-lodged slots n =
+    elim (cases_lt n (length slots)) [
+      | inl below ↦ get_or-map (option_map lodger) slots n None None below
+      | inr past ↦
+          get_or_past (lodgers slots) n None (omega (arith, length-map slots (option_map lodger), past)) ∙ sym (ap (option_map lodger) (get_or_past slots n None past))
     ]
 
 -- what is there of the block with a number is there of its slot

@@ -1,20 +1,25 @@
 -- What a call that writes into the block of a number finds and leaves.
-use Rattle.std.proofs.Common.{◌≡◌, ℕ, ◌<◌, Bool, true, false, cond, nat_eq, List, [], ◌∷◌, length, set, get_or, map, Option, Some, None, refl, sym, ap, ◌∙◌, subst}
+use Rattle.std.proofs.Common.{◌≡◌, ℕ, ◌<◌, Bool, true, false, cond, nat_eq, List, [], ◌∷◌, length, set, get_or, map, Option, Some, None, refl, sym, ap, ◌∙◌, subst, nat_lt}
 use Rattle.std.specs.Bool.{MatchBool}
 use Rattle.std.specs.Option.{IsSome}
 use Rattle.std.specs.Vec.{vec_capacity}
+use Rattle.std.specs.HashMap.{get}
+use Rattle.std.specs.Prelude.{option_map}
 use Rattle.std.proofs.lemmas.List.{get_or_default}
+use Rattle.std.proofs.Math.Seq.{map-set_same}
 use Rattle.chunk_block.specs.Blocks.{BlockState}
 use Rattle.archetype_store.specs.declared.slots.Held.{Held}
 use Rattle.archetype_store.specs.declared.store.ArchetypeStore.TheInside.{Inside}
+use Rattle.archetype_store.specs.HomeKeys.{same_home}
+use Rattle.archetype_store.specs.Homes.{AreHomes, homes_of, lodger, lodgers}
 use Rattle.archetype_store.specs.Slots.{slot_at}
 use Rattle.archetype_store.specs.Stores.{StoreState, Numbered, OfBlock, OfNumber, with_block, with_block_in}
-use Rattle.archetype_store.specs.Inside.{Beside, beside, kept, view_of, blocks_in, numbered, IsOrderly, IsConsistent}
+use Rattle.archetype_store.specs.Inside.{Beside, beside, kept, view_of, blocks_in, AreAllTyped, IsOrderly, IsConsistent}
 use Rattle.archetype_store.proofs.Orders.{below_of, none_some, some_is}
 use Rattle.archetype_store.proofs.Views.{at_number, for_number, written, kept-written}
 
 -- what holds of a block that was changed
-of-changed : (n : ℕ) (f : BlockState → BlockState) (Q : BlockState → Type 0) (P : Numbered → Type 0) (bs : List Numbered) → OfNumber n P bs → ((b : Numbered) → P b → Q (f b.block)) → OfBlock n Q (with_block n f bs)
+pub of-changed : (n : ℕ) (f : BlockState → BlockState) (Q : BlockState → Type 0) (P : Numbered → Type 0) (bs : List Numbered) → OfNumber n P bs → ((b : Numbered) → P b → Q (f b.block)) → OfBlock n Q (with_block n f bs)
 of-changed n f Q P [] is so = absurd is
 of-changed n f Q P (b ∷ bs) is so = by (nat_eq b.number n) refl is (λ h. of-changed n f Q P bs h so)
   where
@@ -24,7 +29,7 @@ of-changed n f Q P (b ∷ bs) is so = by (nat_eq b.number n) refl is (λ h. of-c
     by false apart is rest = subst (λ t. MatchBool t (Q b.block) (OfBlock n Q (with_block n f bs))) (sym apart) (rest is)
 
 module _ (s : Inside) (store : StoreState) (seen : view_of s ≡ store) (n : ℕ) (P : BlockState → Type 0) (is : OfBlock n P store.blocks) where
-  there : (h : Held) × ((slot_at s.slots.items n ≡ Some h) × P h.block)
+  pub there : (h : Held) × ((slot_at s.slots.items n ≡ Some h) × P h.block)
   there = at_number (λ b. P b.block) s.slots.items s.shared n s.order.items (subst (λ (v : StoreState). OfBlock n P v.blocks) (sym seen) is)
 
   pub number-below : n < length s.slots.items
@@ -66,9 +71,35 @@ module _ (s : Inside) (store : StoreState) (seen : view_of s ≡ store) (n : ℕ
       (for_number (λ b. Q (f b.block)) (λ b. P b.block) s.slots.items s.shared n s.order.items (subst (λ (v : StoreState). OfBlock n P v.blocks) (sym seen) is)
       (λ k found. subst (λ (x : Held). Q (f x.block)) (some_is h k (sym at ∙ found)) (subst Q made holds))) (λ b holds. holds))
 
-  pub orderly-written : (h : Held) (f : BlockState → BlockState) (block : BlockState) → slot_at s.slots.items n ≡ Some h → block ≡ f h.block
-      → beside (record h { block = f h.block }) ≡ beside h → IsConsistent s
+  orderly-by : {slots : List (Option Beside)} → slots ≡ kept s.slots.items
+      → IsOrderly s.registry s.archetypes.items (map (λ v. v.items) s.members.items) (kept s.slots.items) s.free.items (vec_capacity s.free) s.order.items s.shared
+      → IsOrderly s.registry s.archetypes.items (map (λ v. v.items) s.members.items) slots s.free.items (vec_capacity s.free) s.order.items s.shared
+  orderly-by same orderly = subst (λ slots. IsOrderly s.registry s.archetypes.items (map (λ v. v.items) s.members.items) slots s.free.items (vec_capacity s.free) s.order.items s.shared) (sym same) orderly
+
+  -- a write that leaves the rows of the block as many as they were
+  pub consistent-written : (h : Held) (f : BlockState → BlockState) (block : BlockState) → slot_at s.slots.items n ≡ Some h → block ≡ f h.block
+      → beside (record h { block = f h.block }) ≡ beside h → length (f h.block).rows ≡ length h.block.rows → IsConsistent s
       → IsOrderly s.registry s.archetypes.items (map (λ v. v.items) s.members.items) (kept (set s.slots.items n (Some (record h { block = block })))) s.free.items (vec_capacity s.free) s.order.items s.shared
-  orderly-written h f block at is same orderly =
-      subst (λ slots. IsOrderly s.registry s.archetypes.items (map (λ v. v.items) s.members.items) slots s.free.items (vec_capacity s.free) s.order.items s.shared)
-      (sym (ap (λ b. kept (set s.slots.items n (Some (record h { block = b })))) is ∙ kept-written s.slots.items s.shared n h f at same)) orderly
+      × (AreAllTyped s.shared (kept (set s.slots.items n (Some (record h { block = block })))) × AreHomes (homes_of s.homes.items) (get same_home s.found) (lodgers (set s.slots.items n (Some (record h { block = block })))) s.order.items)
+  consistent-written h f block at is same rows consistent =
+      let slots : kept (set s.slots.items n (Some (record h { block = block }))) ≡ kept s.slots.items = ap (λ b. kept (set s.slots.items n (Some (record h { block = b })))) is ∙ kept-written s.slots.items s.shared n h f at same in
+      let capacity : (f h.block).capacity ≡ h.block.capacity = ap (λ (x : Beside). x.capacity) same in
+      let lodger_same : lodger (record h { block = f h.block }) ≡ lodger h =
+      ap (λ k. record (lodger h) { roomy = nat_lt k (f h.block).capacity }) rows ∙ ap (λ k. record (lodger h) { roomy = nat_lt (length h.block.rows) k }) capacity in
+      let lodged : lodgers (set s.slots.items n (Some (record h { block = block }))) ≡ lodgers s.slots.items =
+      ap (λ b. lodgers (set s.slots.items n (Some (record h { block = b })))) is
+      ∙ map-set_same (option_map lodger) s.slots.items n (Some (record h { block = f h.block })) None (ap Some lodger_same ∙ sym (ap (option_map lodger) at)) in (
+        orderly-by slots consistent.0,
+        (
+          subst (AreAllTyped s.shared) (sym slots) consistent.1.0,
+          subst (λ ls. AreHomes (homes_of s.homes.items) (get same_home s.found) ls s.order.items) (sym lodged) consistent.1.1,
+        ),
+      )
+
+  -- a write that changes only the rows of the block
+  pub orderly-written : (h : Held) (f : BlockState → BlockState) (block : BlockState) → slot_at s.slots.items n ≡ Some h → block ≡ f h.block → beside (record h { block = f h.block }) ≡ beside h → IsConsistent s
+      → IsOrderly s.registry s.archetypes.items (map (λ v. v.items) s.members.items) (kept (set s.slots.items n (Some (record h { block = block })))) s.free.items (vec_capacity s.free) s.order.items s.shared
+      × AreAllTyped s.shared (kept (set s.slots.items n (Some (record h { block = block }))))
+  orderly-written h f block at is same consistent =
+      let slots : kept (set s.slots.items n (Some (record h { block = block }))) ≡ kept s.slots.items = ap (λ b. kept (set s.slots.items n (Some (record h { block = b })))) is ∙ kept-written s.slots.items s.shared n h f at same in
+      (orderly-by slots consistent.0, subst (AreAllTyped s.shared) (sym slots) consistent.1.0)

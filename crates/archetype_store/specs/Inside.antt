@@ -1,23 +1,23 @@
 -- A store as it is kept: a slot for each number, the numbers in block order, and the interned values.
-use Rattle.std.specs.Prelude.{ℕ, ◌≡◌, ◌<◌, ◌≤◌, ◌+◌, Bool, false, ◌&&◌, nat_lt, nat_eq, List, [], ◌∷◌, length, map, filter, Option, Some, None, option_map, option_and_then, slice_index_or, count_by, is_some, unwrap_or}
-use Rattle.std.specs.List.{filter_map, flat_map}
+use Rattle.std.specs.Prelude.{ℕ, ◌≡◌, ◌<◌, ◌≤◌, ◌+◌, nat_eq, List, [], ◌∷◌, length, map, Option, Some, None, option_map, option_and_then, slice_index_or, count_by, is_some, unwrap_or}
+use Rattle.std.specs.List.{filter_map}
 use Rattle.std.specs.Option.{IsSome}
 use Rattle.std.specs.Vec.{vec_capacity}
-use Rattle.std.specs.Cmp.Lexicographic.{pointwise}
-use Rattle.ent_types.specs.declared.value.Value.{Value}
-use Rattle.world_model.specs.Part.{PartOf, same_part}
 use Rattle.ent_types.specs.declared.type_info.TypeInfo.{TypeInfo}
 use Rattle.world_model.specs.World.{capacity}
 use Rattle.block_columns.specs.declared.shape.TypeShape.{TypeShape}
-use Rattle.chunk_block.specs.Blocks.{new_types}
+use Rattle.chunk_block.specs.Blocks.{BlockState, new_types}
 use Rattle.shared_values.specs.declared.table.Slot.{Slot as Interned}
 use Rattle.archetype_store.specs.declared.numbers.TheConstants.{MOST_NUMBERS}
 use Rattle.archetype_store.specs.declared.shared_parts.SharedPart.{SharedPart}
 use Rattle.archetype_store.specs.declared.slots.Held.{Held}
 use Rattle.archetype_store.specs.declared.store.ArchetypeStore.TheInside.{Inside}
-use Rattle.archetype_store.specs.Holding.{parts_of, ids_of, Backs}
+use Rattle.archetype_store.specs.Holding.{AreTyped, parts_of, ids_of, Backs}
+use Rattle.archetype_store.specs.HomeKeys.{same_home}
+use Rattle.archetype_store.specs.Homes.{AreHomes, homes_of, lodgers}
+use Rattle.std.specs.HashMap.{get}
 use Rattle.archetype_store.specs.Slots.{slot_at, AreFree, AreOrdered, ArePlaced, numbers_of, of_slots}
-use Rattle.archetype_store.specs.Stores.{Numbered, StoreState, types_at, shared_types}
+use Rattle.archetype_store.specs.Stores.{Numbered, StoreState, AreApart, types_at, shared_types}
 
 -- ---- what contracts see
 
@@ -89,10 +89,6 @@ AreOfArchetypes registry archetypes slots = (n : ℕ) (x : Beside) → slot_at s
 abbrev pub members_of : List (Option Beside) → ℕ → List (Option ℕ) → List ℕ
 members_of slots a order = numbers_of (λ x. nat_eq x.archetype a) slots order
 
--- no two lists of types are equal
-abbrev pub AreApart : List (List ℕ) → Type 0
-AreApart archetypes = (a b : ℕ) → a < length archetypes → b < length archetypes → types_at archetypes a ≡ types_at archetypes b → a ≡ b
-
 abbrev pub members_at : List (List ℕ) → ℕ → List ℕ
 members_at members a = slice_index_or members a []
 
@@ -116,21 +112,38 @@ pub record IsOrderly (registry : Option (List TypeInfo)) (archetypes members : L
   -- a block of each archetype has room for a row
   pub fit : (a : ℕ) → a < length archetypes → 0 < capacity (unwrap_or registry []) (types_at archetypes a)
 
+-- the ids of each block have the types of their parts
+abbrev pub AreAllTyped : List Interned → List (Option Beside) → Type 0
+AreAllTyped table slots = (n : ℕ) (x : Beside) → slot_at slots n ≡ Some x → AreTyped table x.shared
+
 abbrev pub IsConsistent : Inside → Type 0
 IsConsistent s =
     IsOrderly s.registry s.archetypes.items (map (λ v. v.items) s.members.items) (kept s.slots.items) s.free.items (vec_capacity s.free) s.order.items s.shared
-
--- ---- room for a row
-
--- the block of a slot has room and these shared values
-abbrev pub open_of : List Interned → List (PartOf Value) → Option Held → Bool
-open_of table parts None = false
-open_of table parts (Some h) = nat_lt (length h.block.rows) h.block.capacity && pointwise same_part parts (parts_of table h.shared.items)
-
-abbrev pub is_open : List (Option Held) → List Interned → List (PartOf Value) → ℕ → Bool
-is_open slots table parts n = open_of table parts (slot_at slots n)
+    × (AreAllTyped s.shared (kept s.slots.items) × AreHomes (homes_of s.homes.items) (get same_home s.found) (lodgers s.slots.items) s.order.items)
 
 -- each of the numbers has a block
 abbrev pub AreUsed : List (Option Held) → List ℕ → Type 0
 AreUsed slots [] = Unit {0}
 AreUsed slots (n ∷ ns) = IsSome (slot_at slots n) × AreUsed slots ns
+
+-- ---- the places of numbers among those of an archetype
+
+abbrev pub number_at : List ℕ → ℕ → ℕ
+number_at numbers k = slice_index_or numbers k 0
+
+-- the rank of a block; 0 where there is none
+abbrev pub rank_at : List (Option Held) → ℕ → ℕ
+rank_at slots n = unwrap_or (option_map (λ (h : Held). h.rank) (slot_at slots n)) 0
+
+-- ---- the walk over the blocks
+
+-- what a slot has of the walk
+abbrev pub walked_slot : ℕ → Option Held → Option (ℕ × BlockState)
+walked_slot n slot = option_map (λ (h : Held). (n, h.block)) slot
+
+abbrev pub walked_at : List (Option Held) → Option ℕ → Option (ℕ × BlockState)
+walked_at slots at = option_and_then (λ n. walked_slot n (slot_at slots n)) at
+
+-- the blocks of numbers, with their numbers
+abbrev pub walked : List (Option Held) → List (Option ℕ) → List (ℕ × BlockState)
+walked slots order = filter_map (walked_at slots) order

@@ -1,5 +1,5 @@
 -- What contracts see of a store: its blocks in block order, each with its number and its shared values.
-use Rattle.std.specs.Prelude.{ℕ, ◌≡◌, ◌⊎◌, ◌<◌, ◌+◌, Bool, true, false, not, ◌&&◌, if◌then◌else◌, nat_eq, nat_lt, List, [], ◌∷◌, ◌++◌, length, map, filter, Option, Some, None, option_map, slice_get, slice_index_or, unwrap_or}
+use Rattle.std.specs.Prelude.{ℕ, ◌≡◌, ◌⊎◌, ◌<◌, ◌≤◌, Bool, true, false, not, ◌&&◌, if◌then◌else◌, nat_eq, nat_lt, List, [], ◌∷◌, ◌++◌, length, map, filter, Option, Some, None, option_map, slice_get, slice_index_or, unwrap_or}
 use Rattle.std.specs.Bool.{MatchBool}
 use Rattle.std.specs.List.{list_any, swap_remove}
 use Rattle.std.specs.Cmp.Lexicographic.{pointwise}
@@ -7,9 +7,12 @@ use Rattle.ent_types.specs.declared.entity.Entity.{Entity}
 use Rattle.ent_types.specs.declared.value.Value.{Value}
 use Rattle.ent_types.specs.declared.type_info.TypeInfo.{TypeInfo}
 use Rattle.ent_types.specs.TypeLookups.{is_shared_at}
+use Rattle.world_model.specs.Members.{In, IsRising, AreDistinct}
 use Rattle.world_model.specs.Part.{PartOf, part_type, same_part}
 use Rattle.world_model.specs.World.{capacity}
-use Rattle.chunk_block.specs.Blocks.{BlockState, LoanState, new_block, no_row, row_in, lent_type}
+use Rattle.block_columns.specs.declared.shape.TypeShape.{TypeShape}
+use Rattle.chunk_block.specs.Blocks.{BlockState, BlockType, new_block, new_types, no_row}
+use Rattle.archetype_store.specs.declared.numbers.TheConstants.{MOST_NUMBERS}
 
 -- a block of a store
 pub record Numbered : Type 0 where
@@ -99,6 +102,10 @@ pub record Opens (old new : StoreState) (a : ℕ) (shared : List (PartOf Value))
 abbrev pub without_row : ℕ → BlockState → BlockState
 without_row row b = record b { rows = swap_remove b.rows row no_row }
 
+-- the entity that takes the place of a row that leaves: that of the last row; none if the row is the last
+abbrev pub moved_into : ℕ → BlockState → Option Entity
+moved_into row b = option_map (λ r. r.entity) (slice_get (without_row row b).rows row)
+
 -- a block of a number that has no row any more
 abbrev pub is_emptied : ℕ → Numbered → Bool
 is_emptied n b = nat_eq b.number n && nat_eq (length b.block.rows) 0
@@ -106,6 +113,26 @@ is_emptied n b = nat_eq b.number n && nat_eq (length b.block.rows) 0
 -- the blocks after a row left the block of a number: that block goes if it was its last row
 abbrev pub left : ℕ → ℕ → List Numbered → List Numbered
 left n row blocks = filter (λ b. not (is_emptied n b)) (with_block n (without_row row) blocks)
+
+-- the blocks without the block of a number
+abbrev pub without_block : ℕ → List Numbered → List Numbered
+without_block n blocks = filter (λ (b : Numbered). not (nat_eq b.number n)) blocks
+
+-- ---- reading
+
+-- the numbers of the blocks of an archetype, in block order
+abbrev pub numbers_in : ℕ → List Numbered → List ℕ
+numbers_in a blocks = map (λ (b : Numbered). b.number) (filter (λ (b : Numbered). nat_eq b.archetype a) blocks)
+
+-- the rank at the place of the block of a number; 0 where there is none
+abbrev pub rank_of : ℕ → List Numbered → List ℕ → ℕ
+rank_of n [] ranks = 0
+rank_of n (b ∷ bs) [] = 0
+rank_of n (b ∷ bs) (r ∷ rs) = if nat_eq b.number n then r else rank_of n bs rs
+
+-- the blocks with their numbers
+abbrev pub numbered_blocks : List Numbered → List (ℕ × BlockState)
+numbered_blocks blocks = map (λ (b : Numbered). (b.number, b.block)) blocks
 
 -- ---- archetypes
 
@@ -132,3 +159,30 @@ pub record Finds (old new : StoreState) (registry : List TypeInfo) (types : List
 -- the shared types among some types
 abbrev pub shared_types : List TypeInfo → List ℕ → List ℕ
 shared_types registry types = filter (is_shared_at registry) types
+
+-- no two archetypes have the same types
+abbrev pub AreApart : List (List ℕ) → Type 0
+AreApart archetypes = (a b : ℕ) → a < length archetypes → b < length archetypes → types_at archetypes a ≡ types_at archetypes b → a ≡ b
+
+abbrev pub shape_list : List BlockType → List TypeShape
+shape_list columns = map (λ (x : BlockType). x.shape) columns
+
+-- a block is of its archetype
+pub record IsOfStore (s : StoreState) (b : Numbered) : Type 0 where
+  pub there : b.archetype < length s.archetypes
+  pub types : b.block.types ≡ types_at s.archetypes b.archetype
+  pub capacity : b.block.capacity ≡ capacity (registry_of s) b.block.types
+  pub shapes : shape_list b.block.columns ≡ shape_list (new_types (registry_of s) b.block.types)
+  pub shared : map part_type b.shared ≡ shared_types (registry_of s) b.block.types
+
+-- what always holds of a store
+pub record IsStore (s : StoreState) : Type 0 where
+  pub numbers : AreDistinct (map (λ (b : Numbered). b.number) s.blocks)
+  pub blocks : (b : Numbered) → In b s.blocks → IsOfStore s b
+  pub apart : AreApart s.archetypes
+  -- a block of each archetype has room for a row
+  pub fit : (a : ℕ) → a < length s.archetypes → 0 < capacity (registry_of s) (types_at s.archetypes a)
+  pub ranked : length s.ranks ≡ length s.blocks
+  pub rising : IsRising s.ranks
+  pub few : length s.blocks ≤ MOST_NUMBERS
+  pub registered : s.registry ≡ None → s.archetypes ≡ []

@@ -4,9 +4,13 @@
 //! emptied block goes while the others keep their order, are entsim's own rules.
 #![tactic(auto)]
 
+mod blocks;
+mod homes;
 mod numbers;
 mod shared_parts;
 mod slots;
 mod store;
 
+pub use blocks::Blocks;
+pub use numbers::MOST_NUMBERS;
 pub use store::{ArchetypeId, ArchetypeStore};

@@ -1,24 +1,31 @@
 //! The store.
-ghost use Rattle.std.specs.Prelude.{◌≡◌, ℕ, ⊤, ◌<◌, ◌≤◌, ◌++◌, ◌∷◌, [], length, map, not, slice_get, slice_set, fold, option_map, IfOk, OnOk, OnErr, MatchResult, None, Some, OnSome, IfSome, IfNone, IfErr, true, false, nat_eq, vec_capacity};
+ghost use Rattle.std.specs.Prelude.{◌≡◌, ℕ, ⊤, ◌<◌, ◌≤◌, ◌++◌, ◌∷◌, [], length, map, not, slice_get, slice_set, fold, option_map, IfOk, OnOk, OnErr, MatchOption, MatchResult, None, Some, OnSome, IfSome, IsSome, IfNone, IfErr, true, false, nat_eq, vec_capacity};
 ghost use Rattle.std.specs.Cmp.Lexicographic.{pointwise};
 ghost use Rattle.chunk_block.specs.declared.block.BlockFault.TheVariants as fault;
 ghost use Rattle.std.specs.List.{flat_map, list_any};
 ghost use Rattle.ent_types.specs.declared.limits.TheConstants.{MOST_BLOCK_ROWS};
 ghost use Rattle.world_model.specs.Part.{part_of as seen_part, part_type};
 ghost use Rattle.world_model.specs.World.{capacity};
+ghost use Rattle.world_model.specs.Found.{part_at};
 ghost use Rattle.block_columns.specs.Types.{with_value, with_off, with_values, TakesValue, TakesElements, IsEnableable};
 ghost use Rattle.buffer_store.specs.Buffers.{buffer};
 ghost use Rattle.chunk_block.specs.Blocks.{BlockState, LoanState, IsWhole, IsLoanOf, AreHeld, OfType, changed, content_at, given_rows, given_type, new_block, lent_piece, lent_row, lent_type, new_row, row_in, with_mark};
 ghost use Rattle.archetype_store.specs.declared.numbers.TheConstants.{MOST_NUMBERS as most_numbers};
-ghost use Rattle.archetype_store.specs.Stores.{StoreState, OfNumber, OfBlock, with_block_in, Adds, Finds, LacksTypes, Opens, IsFirstWithRoom, is_full, types_at, shared_types, registry_of};
+ghost use Rattle.archetype_store.specs.Stores.{StoreState, OfNumber, OfBlock, with_block_in, Adds, Finds, HasBlocks, IsStore, LacksTypes, Opens, IsFirstWithRoom, is_full, left, moved_into, numbered_blocks, numbers_in, rank_of, types_at, shared_types, registry_of, without_block, without_row};
 
+use crate::blocks::Blocks;
+use crate::homes::{Home, HomeKey, drop_rank, first_in, note_room};
 use crate::numbers::{MOST_NUMBERS, put, take_room};
-use crate::slots::{Held, first_open, held_at, new_held};
+use crate::shared_parts::{find_ids, release_all, values_in};
+use crate::slots::{Held, archetype_and_rank, held_at, new_held, place_in, take_out};
 use buffer_store::Elements;
 use chunk_block::{Block, BlockFault, Loan};
-use ent_types::{Entity, Memory, Part, Registry, SystemVersion, TypeId, TypeSet, Value};
+use ent_types::{
+    Entity, Memory, Part, Registry, Sequence, SystemVersion, TypeId, TypeSet, Value, Values,
+};
 use shared_values::SharedTable;
 use std::alloc::Global;
+use std::collections::HashMap;
 use std::marker::Model;
 
 /// The id of an archetype. It is the archetype's place in the order in which the archetypes were made.
@@ -48,6 +55,8 @@ pub struct ArchetypeStore {
     free: Vec<u32>,
     order: Vec<Option<u32>>,
     shared: SharedTable,
+    homes: Vec<Home>,
+    found: HashMap<HomeKey, usize>,
 }
 
 impl Model for ArchetypeStore {
@@ -75,6 +84,8 @@ impl ArchetypeStore {
             free: Vec::new(alloc),
             order: Vec::new(alloc),
             shared: SharedTable::new(alloc),
+            homes: Vec::new(alloc),
+            found: HashMap::new(alloc),
         }
     }
 
@@ -86,12 +97,85 @@ impl ArchetypeStore {
         &held_at(&self.slots, number).block
     }
 
+    /// Says what always holds of a store. It does nothing.
+    pub fn is_sound(&self)
+        ensures { IsStore self.now }
+    {
+        let _ = &self.slots;
+    }
+
+    /// Counts the archetypes. Their ids are the numbers below it.
+    pub fn archetypes(&self) -> u32
+        ensures { result ≡ length self.now.archetypes }
+    {
+        self.archetypes.len() as u32
+    }
+
+    /// Returns the archetype that was made after `k` others.
+    pub fn archetype_at(&self, k: u32) -> ArchetypeId
+        requires { k < length self.now.archetypes }
+        ensures { result ≡ k }
+    {
+        ArchetypeId(k)
+    }
+
+    /// Returns the types of an archetype.
+    pub fn types_of(&self, a: ArchetypeId) -> &TypeSet
+        requires { a < length self.now.archetypes }
+        ensures { result.now ≡ types_at self.now.archetypes a }
+    {
+        &self.archetypes[a.0 as usize]
+    }
+
+    /// Returns the numbers of the blocks of an archetype, in block order.
+    pub fn blocks_of(&self, a: ArchetypeId) -> &[u32]
+        requires { a < length self.now.archetypes }
+        ensures { result.now ≡ numbers_in a self.now.blocks }
+    {
+        &self.members[a.0 as usize]
+    }
+
+    /// Returns the archetype of a block.
+    pub fn archetype(&self, number: u32) -> ArchetypeId
+        requires { OfBlock number (λ _. ⊤) self.now.blocks }
+        ensures { OfNumber number (λ b. result ≡ b.archetype) self.now.blocks }
+    {
+        ArchetypeId(held_at(&self.slots, number).archetype)
+    }
+
+    /// Returns the rank of a block. Ranks rise in block order.
+    pub fn rank(&self, number: u32) -> u64
+        requires { OfBlock number (λ _. ⊤) self.now.blocks }
+        ensures { result ≡ rank_of number self.now.blocks self.now.ranks }
+    {
+        held_at(&self.slots, number).rank as u64
+    }
+
+    /// Returns the values of a block for one of its shared types.
+    pub fn shared_of(&self, number: u32, ty: TypeId) -> &Values
+        requires { OfNumber number (λ b. IsSome (part_at ty.0 b.shared)) self.now.blocks }
+        ensures { OfNumber number (λ b. part_at ty.0 b.shared ≡ Some result.now) self.now.blocks }
+    {
+        values_in(&self.shared, &held_at(&self.slots, number).shared, ty)
+    }
+
+    /// Walks the blocks with their numbers, in block order.
+    pub fn blocks(&self) -> Blocks<'_>
+        ensures { result ≡ numbered_blocks self.now.blocks }
+    {
+        Blocks::new(&self.slots, &self.order)
+    }
+
     /// Adds a row for an entity to a block that has room.
     pub fn push_row(&mut self, number: u32, e: Entity) -> u32
         requires { OfBlock number (λ b. (length b.rows < b.capacity) × IsWhole b.columns) self.old.blocks }
         ensures place { OfBlock number (λ b. result ≡ length b.rows) self.old.blocks }
         ensures store { self.new ≡ with_block_in number (λ b. record b { rows = b.rows ++ new_row b.columns e ∷ [] }) self.old }
     {
+        let held = held_at(&self.slots, number);
+        let (home, rank) = (held.home, held.rank);
+        let roomy = held.block.capacity() - held.block.len() > 1;
+        note_room(&mut self.homes[home], rank, true, roomy);
         match &mut self.slots[number as usize] {
             Some(held) => held.block.push_row(e),
             None => unreachable!(),
@@ -218,24 +302,28 @@ impl ArchetypeStore {
         ensures ok { IfOk result (Opens self.old self.new a (map seen_part shared.now)) }
         ensures err { OnErr result (self.new ≡ self.old) }
     {
-        match self.open_block(a, shared) {
+        match self.open_block(a, shared)? {
             Some(number) => Ok(number),
             None => self.add_block(a, shared),
         }
     }
 
     /// Returns the first block that has room for a row with these shared values.
-    fn open_block(&self, a: ArchetypeId, shared: &[Part]) -> Option<u32>
-        requires { a < length self.now.archetypes }
-        ensures some { IfSome result (λ n. IsFirstWithRoom a (map seen_part shared.now) n self.now.blocks) }
-        ensures none { IfNone result (is_full a (map seen_part shared.now) self.now.blocks ≡ true) }
+    fn open_block(&self, a: ArchetypeId, shared: &[Part]) -> Result<Option<u32>, Memory>
+        ensures { IfOk result (λ found. MatchOption found (is_full a (map seen_part shared.now) self.now.blocks ≡ true) (λ n. IsFirstWithRoom a (map seen_part shared.now) n self.now.blocks)) }
     {
-        first_open(
-            &self.slots,
-            &self.shared,
-            &self.members[a.0 as usize],
-            shared,
-        )
+        self.shared.has_one_each();
+        let alloc = *self.order.allocator();
+        match find_ids(alloc, &self.shared, shared)? {
+            None => Ok(None),
+            Some(ids) => {
+                let key = HomeKey {
+                    archetype: a.0,
+                    ids: Sequence::from_vec(ids),
+                };
+                Ok(first_in(&self.homes, &self.found, &self.order, &key))
+            }
+        }
     }
 
     /// Adds a block without rows at the end.
@@ -261,14 +349,65 @@ impl ArchetypeStore {
             &self.registry,
             types,
             &mut self.shared,
+            &mut self.homes,
+            &mut self.found,
             a.0,
             rank,
             shared,
         )?;
+        let home = held.home;
         let number = put(&mut self.slots, &mut self.free, held);
         self.order.push_reserved(Some(number));
         self.members[at].push_reserved(number);
+        self.homes[home].ranks.push_reserved(rank);
         Ok(number)
+    }
+
+    /// Removes a row. The last row of the block takes its place, and its entity is returned; `None` if and only if the row was the
+    /// last. If it was the only row, the block goes: its number is free again, its shared values are released, and the other blocks
+    /// keep their order. It takes no memory.
+    pub fn leave(&mut self, number: u32, row: u32) -> Option<Entity>
+        requires { OfBlock number (λ b. (row < length b.rows) × IsWhole b.columns) self.old.blocks }
+        ensures moved { OfBlock number (λ b. result ≡ moved_into row b) self.old.blocks }
+        ensures blocks { HasBlocks self.old self.new (left number row self.old.blocks) }
+    {
+        let moved = self.remove_row(number, row);
+        self.is_sound();
+        if self.block(number).len() == 0 {
+            self.remove_block(number);
+        }
+        moved
+    }
+
+    /// Removes a row. The last row of the block takes its place, and its entity is returned.
+    fn remove_row(&mut self, number: u32, row: u32) -> Option<Entity>
+        requires { OfBlock number (λ b. (row < length b.rows) × IsWhole b.columns) self.old.blocks }
+        ensures moved { OfBlock number (λ b. result ≡ moved_into row b) self.old.blocks }
+        ensures store { self.new ≡ with_block_in number (without_row row) self.old }
+    {
+        let held = held_at(&self.slots, number);
+        let (home, rank) = (held.home, held.rank);
+        let roomy = held.block.len() < held.block.capacity();
+        note_room(&mut self.homes[home], rank, roomy, true);
+        match &mut self.slots[number as usize] {
+            Some(held) => held.block.swap_remove_row(row),
+            None => unreachable!(),
+        }
+    }
+
+    /// Removes a block that has room for a row, and releases its shared values. Its number is free again.
+    fn remove_block(&mut self, number: u32)
+        requires { OfBlock number (λ b. length b.rows < b.capacity) self.old.blocks }
+        ensures { HasBlocks self.old self.new (without_block number self.old.blocks) }
+    {
+        let (archetype, rank) = archetype_and_rank(&self.slots, number);
+        let at = place_in(&self.slots, &self.members[archetype], rank);
+        self.members[archetype].remove(at);
+        let held = take_out(&mut self.slots, number);
+        drop_rank(&mut self.homes[held.home].ranks, rank);
+        self.order[rank] = None;
+        self.free.push_reserved(number);
+        release_all(&mut self.shared, &held.shared);
     }
 
     /// Returns the archetype with some types, and makes it if there is none. The registry is that of each earlier call. `TooLarge`

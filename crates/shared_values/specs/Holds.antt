@@ -1,5 +1,5 @@
 -- Interned values: for each id how often it is held, its type and its values.
-use Rattle.std.specs.Prelude.{ℕ, ◌≡◌, ◌≢◌, ◌+◌, ◌-◌, ◌<◌, ◌≤◌, ◌==◌, if◌then◌else◌, min, max, List, [], length, slice_index_or}
+use Rattle.std.specs.Prelude.{ℕ, ◌≡◌, ◌≢◌, ◌+◌, ◌-◌, ◌<◌, ◌≤◌, ◌==◌, if◌then◌else◌, min, max, List, [], length, Option, MatchOption, slice_index_or}
 use Rattle.ent_types.specs.declared.value.Value.{Value}
 use Rattle.shared_values.specs.declared.table.Slot.{Slot}
 use Rattle.shared_values.specs.declared.table.TheConstants.{MOST_HOLDS}
@@ -30,6 +30,10 @@ pub record StandsFor (slots : List Slot) (id type_id : ℕ) (values : List Value
   pub held : IsHeld slots id
   pub type_is : type_of slots id ≡ type_id
   pub values_are : values_of slots id ≡ values
+
+-- the id stands for these values; without one, no id does
+abbrev pub IsFoundFor : List Slot → ℕ → List Value → Option ℕ → Type 0
+IsFoundFor slots type_id values found = MatchOption found ((id : ℕ) → StandsFor slots id type_id values → ⊥) (λ id. StandsFor slots id type_id values)
 
 -- no two ids that are held have one type and the same values
 abbrev pub AreOneEach : List Slot → Type 0

@@ -1,6 +1,6 @@
 //! The table of interned values: a slot for each id, a stack of the free ids, and a map from keys to ids.
 ghost use Rattle.std.specs.Prelude.{◌≡◌, ◌+◌, ◌<◌, ℕ, [], OnOk, OnErr, Some, ◌≤◌, length, min, vec_capacity, IfOk, IsTrue, ◌↔◌};
-ghost use Rattle.shared_values.specs.Holds.{slot_at, type_of, values_of, holds_of, IsHeld, vacant, AreOneEach, IsIdFor, IsFreeId, ChangesTo, held_once_more, held_once_less};
+ghost use Rattle.shared_values.specs.Holds.{slot_at, type_of, values_of, holds_of, IsHeld, vacant, AreOneEach, IsIdFor, IsFoundFor, IsFreeId, ChangesTo, held_once_more, held_once_less};
 ghost use Rattle.shared_values.specs.Tables.{IsFor};
 ghost use Rattle.shared_values.specs.Keys.{same_key};
 ghost use Rattle.std.specs.HashMap.{IsUnchanged, Updates};
@@ -29,7 +29,7 @@ impl Model for SharedId {
 }
 
 /// The greatest count of holders. A count that has come to it stays there, so its id is never free again.
-const MOST_HOLDS: u64 = u64::MAX;
+pub const MOST_HOLDS: u64 = u64::MAX;
 
 /// What is kept for an id: its type and values, and how often it is held. A free one is held 0 times.
 #[derive(Drop)]
@@ -109,6 +109,24 @@ impl SharedTable {
         id
     }
 
+    /// Returns the id that is held for these values of this type, or `None` if and only if none is.
+    pub fn find(&self, ty: TypeId, values: &Values) -> Result<Option<SharedId>, Memory>
+        ensures { IfOk result (IsFoundFor self.now ty.0 values.now) }
+    {
+        let wanted = Key::of(*self.slots.allocator(), ty, values)?;
+        Ok(self.id_of(&wanted))
+    }
+
+    /// Returns the id that is held for a key.
+    fn id_of(&self, key: &Key) -> Option<SharedId>
+        ensures { IsFoundFor self.now key.now.ty.0 key.now.values result }
+    {
+        match self.ids.get(key) {
+            Some(id) => Some(SharedId(*id)),
+            None => None,
+        }
+    }
+
     /// Returns the id of these values of this type, held once more.
     fn id_for(&mut self, ty: TypeId, values: &Values) -> Result<SharedId, Memory>
         ensures answer { IfOk result (IsIdFor self.old ty.0 values.now) }
@@ -122,8 +140,8 @@ impl SharedTable {
         }
     }
 
-    /// Says what the invariant has: a key finds one id.
-    fn has_one_each(&self)
+    /// Says what always holds: no two held ids have one type and the same values. It does nothing.
+    pub fn has_one_each(&self)
         ensures { AreOneEach self.now }
     {
         let _ = &self.slots;

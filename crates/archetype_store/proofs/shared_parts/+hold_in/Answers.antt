@@ -1,9 +1,10 @@
-use Rattle.std.proofs.Common.{◌≡◌, ℕ, List, ◌∷◌, ◌++◌, [], map, sym, ap, ◌∙◌, subst, refl, OnOk, Ok, Err, Result}
+use Rattle.std.proofs.Common.{◌≡◌, ℕ, List, ◌∷◌, ◌++◌, [], map, sym, subst, refl, OnOk, Ok, Err, Result}
 use Rattle.ent_types.specs.declared.memory.Memory.{Memory}
 use Rattle.world_model.specs.Part.{part_of as seen_part}
 use Rattle.archetype_store.specs.declared.shared_parts.SharedPart.{SharedPart}
-use Rattle.archetype_store.specs.Holding.{Backs, Holds, ids_of, parts_of}
-use Rattle.archetype_store.proofs.Holding.{holds-more, parts-more}
+use Rattle.archetype_store.specs.Holding.{AreTyped, Backs, Holds, ids_of, parts_of}
+use Rattle.std.proofs.lemmas.List.{append-nil}
+use Rattle.archetype_store.proofs.Holding.{backs-pushed, holds-more, parts-more, typed-given}
 use Rattle.archetype_store.proofs.shared_parts.+hold_in.Goals as goal
 
 pub returns-in_ok-id-in-Some-clause-held : goal.returns-in_ok-id-in-Some-clause-held
@@ -32,3 +33,16 @@ returns-in_ok-id-in-Some-clause-ok t c = by c.hold_in.result c.hold_in.ensures.o
         (parts-more c.args.table.now c.intern.new.self c.hold_in.new.table c.args.held.now.items c.hold_in.new.held.items p c.in-Some.part.now.values
         c.in_ok-id-in-Some.ensures.answer c.in_ok-id-in-Some.ensures.held (seen_part c.in-Some.part.now) (map seen_part c.in-Some.rest.now) refl
         (subst (λ before. (others : List ℕ) → Backs c.intern.new.self (ids_of before ++ others) → parts_of c.hold_in.new.table c.hold_in.new.held.items ≡ parts_of c.intern.new.self before ++ map seen_part c.in-Some.rest.now) pushed is))
+
+pub returns-in_ok-id-in-Some-clause-typed : goal.returns-in_ok-id-in-Some-clause-typed
+returns-in_ok-id-in-Some-clause-typed t c backs typed =
+    let p : SharedPart = record { ty = c.in-Some.part.now.ty; id = c.in_ok-id-in-Some.id } in
+    let before : List SharedPart = c.args.held.now.items in
+    let pushed : c.push_reserved.new.self.items ≡ before ++ p ∷ [] = c.push_reserved.ensures.items in
+    let more : Backs c.intern.new.self (ids_of (before ++ p ∷ []) ++ []) =
+    backs-pushed c.args.table.now c.intern.new.self c.intern.new.self before before p c.in-Some.part.now.values c.in_ok-id-in-Some.ensures.answer c.in_ok-id-in-Some.ensures.held []
+    (subst (Backs c.args.table.now) (sym (append-nil (ids_of before))) backs) in
+    c.hold_in.ensures.typed
+    (subst (λ ps. Backs c.intern.new.self (ids_of ps)) (sym pushed) (subst (Backs c.intern.new.self) (append-nil (ids_of (before ++ p ∷ []))) more))
+    (subst (AreTyped c.intern.new.self) (sym pushed)
+    (typed-given c.args.table.now c.intern.new.self before p c.in-Some.part.now.values c.in_ok-id-in-Some.ensures.answer c.in_ok-id-in-Some.ensures.held backs typed))

@@ -1,4 +1,4 @@
-use Rattle.std.proofs.Common.{◌≡◌, sym, ap, ◌∙◌, refl, subst, Some}
+use Rattle.std.proofs.Common.{◌≡◌, sym, ap, ◌∙◌, refl, subst}
 use Rattle.std.specs.Option.{IsSome}
 use Rattle.archetype_store.specs.Slots.{slot_at}
 use Rattle.archetype_store.proofs.Writes.{slot-some, of-block}

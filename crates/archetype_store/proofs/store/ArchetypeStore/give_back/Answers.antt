@@ -1,17 +1,11 @@
-use Rattle.std.proofs.Common.{◌≡◌, ℕ, ◌<◌, ◌++◌, ◌∷◌, [], List, Bool, not, length, map, sym, ap, ◌∙◌, refl, subst, Some, arith}
-use Rattle.std.specs.Prelude.{slice_set, fold}
-use Rattle.std.specs.List.{flat_map}
-use Rattle.buffer_store.specs.Buffers.{Buffer, buffer}
-use Rattle.ent_types.specs.declared.entity.TypeId.{TypeId}
-use Rattle.ent_types.specs.declared.value.Value.{Value}
-use Rattle.block_columns.specs.Types.{TypeState, with_values, TakesElements}
-use Rattle.chunk_block.specs.Blocks.{BlockState, LoanState, IsLoanOf, AreHeld, OfType, changed, content_at, given_rows, given_type, lent_piece, lent_row, lent_type, row_in}
+use Rattle.std.proofs.Common.{◌≡◌, ap, ◌∙◌, arith}
+use Rattle.std.specs.Prelude.{fold}
+use Rattle.chunk_block.specs.Blocks.{BlockState, LoanState, IsLoanOf, given_rows, given_type}
 use Rattle.archetype_store.specs.declared.slots.Held.{Held}
-use Rattle.archetype_store.specs.Slots.{slot_at}
-use Rattle.archetype_store.specs.Stores.{StoreState, OfBlock}
-use Rattle.archetype_store.specs.Inside.{beside, Beside}
-use Rattle.archetype_store.proofs.Shapes.{shapes-lent, shapes-given}
-use Rattle.archetype_store.proofs.Writes.{number-below, slot-found, slot-used, block-is, of-block, of-new-block, store-written, orderly-written}
+use Rattle.archetype_store.specs.Inside.{beside}
+use Rattle.archetype_store.proofs.Shapes.{shapes-given}
+use Rattle.archetype_store.proofs.Writes.{number-below, slot-found, slot-used, block-is, of-new-block, store-written, consistent-written}
+use Rattle.archetype_store.proofs.Shapes.{rows-given}
 use Rattle.archetype_store.proofs.store.ArchetypeStore.give_back.Goals as goal
 
 abbrev Asked : LoanState → BlockState → Type 0
@@ -33,7 +27,7 @@ pub give_back-requires : goal.give_back-requires
 give_back-requires c = block-is c.self.inside c.args.self.now c.self.view_is c.args.number (Asked c.args.loan) c.requires c.in-Some.held (slot-found c.self.inside c.args.self.now c.self.view_is c.args.number (Asked c.args.loan) c.requires c.index_mut.result.now c.index_mut.ensures.value ∙ c.in-Some.is)
 
 pub invariant_of-self : goal.invariant_of-self
-invariant_of-self c = orderly-written c.self.inside c.args.self.now c.self.view_is c.args.number (Asked c.args.loan) c.requires c.in-Some.held (after c.args.loan) c.give_back.new.self (slot-found c.self.inside c.args.self.now c.self.view_is c.args.number (Asked c.args.loan) c.requires c.index_mut.result.now c.index_mut.ensures.value ∙ c.in-Some.is) c.give_back.ensures.block (same_beside c.args.loan c.in-Some.held) c.self.invariant
+invariant_of-self c = consistent-written c.self.inside c.args.self.now c.self.view_is c.args.number (Asked c.args.loan) c.requires c.in-Some.held (after c.args.loan) c.give_back.new.self (slot-found c.self.inside c.args.self.now c.self.view_is c.args.number (Asked c.args.loan) c.requires c.index_mut.result.now c.index_mut.ensures.value ∙ c.in-Some.is) c.give_back.ensures.block (same_beside c.args.loan c.in-Some.held) (rows-given c.args.loan.pieces c.in-Some.held.block.rows) c.self.invariant
 
 pub returns-clause-store : goal.returns-clause-store
 returns-clause-store c = store-written c.self.inside c.args.self.now c.self.view_is c.args.number (Asked c.args.loan) c.requires c.in-Some.held (after c.args.loan) c.give_back.new.self (slot-found c.self.inside c.args.self.now c.self.view_is c.args.number (Asked c.args.loan) c.requires c.index_mut.result.now c.index_mut.ensures.value ∙ c.in-Some.is) c.give_back.ensures.block

@@ -1,17 +1,11 @@
-use Rattle.std.proofs.Common.{◌≡◌, ℕ, ◌<◌, ◌++◌, ◌∷◌, [], List, Bool, not, length, map, sym, ap, ◌∙◌, refl, subst, Some, arith}
-use Rattle.std.specs.Prelude.{slice_set, fold}
+use Rattle.std.proofs.Common.{◌≡◌, ℕ, List, map, ap, ◌∙◌, arith}
 use Rattle.std.specs.List.{flat_map}
-use Rattle.buffer_store.specs.Buffers.{Buffer, buffer}
-use Rattle.ent_types.specs.declared.entity.TypeId.{TypeId}
-use Rattle.ent_types.specs.declared.value.Value.{Value}
-use Rattle.block_columns.specs.Types.{TypeState, with_values, TakesElements}
-use Rattle.chunk_block.specs.Blocks.{BlockState, LoanState, IsLoanOf, AreHeld, OfType, changed, content_at, given_rows, given_type, lent_piece, lent_row, lent_type, row_in}
+use Rattle.chunk_block.specs.Blocks.{BlockState, IsLoanOf, AreHeld, lent_piece, lent_row, lent_type}
 use Rattle.archetype_store.specs.declared.slots.Held.{Held}
-use Rattle.archetype_store.specs.Slots.{slot_at}
-use Rattle.archetype_store.specs.Stores.{StoreState, OfBlock}
-use Rattle.archetype_store.specs.Inside.{beside, Beside}
-use Rattle.archetype_store.proofs.Shapes.{shapes-lent, shapes-given}
-use Rattle.archetype_store.proofs.Writes.{number-below, slot-found, slot-used, block-is, of-block, of-new-block, store-written, orderly-written}
+use Rattle.archetype_store.specs.Inside.{beside}
+use Rattle.archetype_store.proofs.Shapes.{shapes-lent}
+use Rattle.archetype_store.proofs.Writes.{number-below, slot-found, slot-used, block-is, of-block, of-new-block, store-written, consistent-written}
+use Rattle.std.proofs.lemmas.List.{length-map}
 use Rattle.archetype_store.proofs.store.ArchetypeStore.lend.Goals as goal
 
 abbrev Asked : List ℕ → BlockState → Type 0
@@ -33,7 +27,7 @@ pub lend-requires : goal.lend-requires
 lend-requires c = block-is c.self.inside c.args.self.now c.self.view_is c.args.number (Asked c.args.types.now) c.requires c.in-Some.held (slot-found c.self.inside c.args.self.now c.self.view_is c.args.number (Asked c.args.types.now) c.requires c.index_mut.result.now c.index_mut.ensures.value ∙ c.in-Some.is)
 
 pub invariant_of-self : goal.invariant_of-self
-invariant_of-self c = orderly-written c.self.inside c.args.self.now c.self.view_is c.args.number (Asked c.args.types.now) c.requires c.in-Some.held (after c.args.types.now) c.lend.new.self (slot-found c.self.inside c.args.self.now c.self.view_is c.args.number (Asked c.args.types.now) c.requires c.index_mut.result.now c.index_mut.ensures.value ∙ c.in-Some.is) c.lend.ensures.block (same_beside c.args.types.now c.in-Some.held) c.self.invariant
+invariant_of-self c = consistent-written c.self.inside c.args.self.now c.self.view_is c.args.number (Asked c.args.types.now) c.requires c.in-Some.held (after c.args.types.now) c.lend.new.self (slot-found c.self.inside c.args.self.now c.self.view_is c.args.number (Asked c.args.types.now) c.requires c.index_mut.result.now c.index_mut.ensures.value ∙ c.in-Some.is) c.lend.ensures.block (same_beside c.args.types.now c.in-Some.held) (length-map c.in-Some.held.block.rows (lent_row c.args.types.now)) c.self.invariant
 
 pub returns-clause-store : goal.returns-clause-store
 returns-clause-store c = store-written c.self.inside c.args.self.now c.self.view_is c.args.number (Asked c.args.types.now) c.requires c.in-Some.held (after c.args.types.now) c.lend.new.self (slot-found c.self.inside c.args.self.now c.self.view_is c.args.number (Asked c.args.types.now) c.requires c.index_mut.result.now c.index_mut.ensures.value ∙ c.in-Some.is) c.lend.ensures.block

@@ -1,12 +1,7 @@
-use Rattle.std.proofs.Common.{◌≡◌, ℕ, ◌<◌, ◌++◌, ◌∷◌, [], Bool, not, length, sym, ap, ◌∙◌, refl, subst, Some, arith}
-use Rattle.std.specs.Prelude.{slice_set}
-use Rattle.ent_types.specs.declared.entity.Entity.{Entity}
-use Rattle.ent_types.specs.declared.entity.TypeId.{TypeId}
-use Rattle.ent_types.specs.declared.value.Value.{Value}
+use Rattle.std.proofs.Common.{◌∙◌, refl, arith}
 use Rattle.system_version.specs.declared.version.SystemVersion.{SystemVersion}
-use Rattle.block_columns.specs.Types.{with_value, with_off, TakesValue, IsEnableable}
-use Rattle.chunk_block.specs.Blocks.{BlockState, OfType, changed, row_in, with_mark}
-use Rattle.archetype_store.proofs.Writes.{number-below, slot-found, slot-used, block-is, store-written, orderly-written}
+use Rattle.chunk_block.specs.Blocks.{BlockState}
+use Rattle.archetype_store.proofs.Writes.{number-below, slot-found, slot-used, store-written, consistent-written}
 use Rattle.archetype_store.proofs.store.ArchetypeStore.mark_order.Goals as goal
 
 abbrev Asked : BlockState → Type 0
@@ -22,7 +17,7 @@ pub unreachable-requires : goal.unreachable-requires
 unreachable-requires c = slot-used c.self.inside c.args.self.now c.self.view_is c.args.number Asked c.requires c.index_mut.result.now c.index_mut.ensures.value c.in-None.is
 
 pub invariant_of-self : goal.invariant_of-self
-invariant_of-self c = orderly-written c.self.inside c.args.self.now c.self.view_is c.args.number Asked c.requires c.in-Some.held (after c.args.version) c.mark_order.new.self (slot-found c.self.inside c.args.self.now c.self.view_is c.args.number Asked c.requires c.index_mut.result.now c.index_mut.ensures.value ∙ c.in-Some.is) c.mark_order.ensures refl c.self.invariant
+invariant_of-self c = consistent-written c.self.inside c.args.self.now c.self.view_is c.args.number Asked c.requires c.in-Some.held (after c.args.version) c.mark_order.new.self (slot-found c.self.inside c.args.self.now c.self.view_is c.args.number Asked c.requires c.index_mut.result.now c.index_mut.ensures.value ∙ c.in-Some.is) c.mark_order.ensures refl refl c.self.invariant
 
 pub returns : goal.returns
 returns c = store-written c.self.inside c.args.self.now c.self.view_is c.args.number Asked c.requires c.in-Some.held (after c.args.version) c.mark_order.new.self (slot-found c.self.inside c.args.self.now c.self.view_is c.args.number Asked c.requires c.index_mut.result.now c.index_mut.ensures.value ∙ c.in-Some.is) c.mark_order.ensures

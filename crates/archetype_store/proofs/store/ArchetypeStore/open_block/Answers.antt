@@ -1,35 +1,34 @@
-use Rattle.std.proofs.Common.{◌≡◌, ℕ, ◌<◌, List, Vec, Global, get_or, length, map, find, sym, ap, ◌∙◌, subst}
-use Rattle.world_model.specs.Part.{part_of as seen_part}
-use Rattle.archetype_store.specs.Stores.{StoreState}
-use Rattle.archetype_store.specs.Inside.{AreUsed, is_open, kept, members_of}
-use Rattle.archetype_store.proofs.Found.{used-members, members-kept, says-some, says-none}
+use Rattle.std.proofs.Common.{◌≡◌, ℕ, List, true, map, sym, ap, ◌∙◌, subst}
+use Rattle.std.specs.Prelude.{MatchOption, option_map}
+use Rattle.std.specs.HashMap.{get}
+use Rattle.ent_types.specs.declared.value.Value.{Value}
+use Rattle.world_model.specs.Part.{PartOf, part_of as seen_part}
+use Rattle.archetype_store.specs.Holding.{AreIdsFor, StandAll}
+use Rattle.archetype_store.specs.HomeKeys.{same_home}
+use Rattle.archetype_store.specs.Homes.{first_number, homes_of}
+use Rattle.archetype_store.specs.Stores.{StoreState, IsFirstWithRoom, is_full}
+use Rattle.archetype_store.specs.Inside.{view_of}
+use Rattle.archetype_store.proofs.Search.{answers, full-without}
 use Rattle.archetype_store.proofs.store.ArchetypeStore.open_block.Goals as goal
 
-pub first_open-requires-clause-used : goal.first_open-requires-clause-used
-first_open-requires-clause-used c =
+pub returns-in-None : goal.returns-in-None
+returns-in-None c =
     let s = c.self.inside in
-    let below : c.args.a < length s.archetypes.items = subst (λ (v : StoreState). c.args.a < length v.archetypes) (sym c.self.view_is) c.requires in
-    let at : c.index.result.now ≡ get_or s.members.items c.args.a c.index.result.now = subst (λ a. c.index.result.now ≡ get_or s.members.items a c.index.result.now) c.a.view_is c.index.ensures in
-    let numbers : c.deref-2.result.now ≡ members_of (kept s.slots.items) c.args.a s.order.items = c.deref-2.ensures.value ∙ members-kept s c.index.result.now c.args.a c.self.invariant below at in
-    subst (λ slots. AreUsed slots c.deref-2.result.now) (sym c.deref.ensures.value)
-    (subst (AreUsed s.slots.items) (sym numbers) (used-members s.slots.items c.args.a s.order.items))
+    let parts : List (PartOf Value) = map seen_part c.args.shared.now in
+    let lacks : (ids : List ℕ) → StandAll s.shared parts ids → ⊥ = subst (λ o. AreIdsFor s.shared parts (option_map (λ v. v.items) o)) c.in-None.is c.in_ok-find_ids.ensures in
+    subst (λ (v : StoreState). is_full c.args.a parts v.blocks ≡ true) c.self.view_is (full-without s c.self.invariant c.has_one_each.ensures c.args.a parts lacks)
 
-pub returns-clause-some : goal.returns-clause-some
-returns-clause-some c =
+pub returns-in-Some : goal.returns-in-Some
+returns-in-Some c =
     let s = c.self.inside in
-    let below : c.args.a < length s.archetypes.items = subst (λ (v : StoreState). c.args.a < length v.archetypes) (sym c.self.view_is) c.requires in
-    let at : c.index.result.now ≡ get_or s.members.items c.args.a c.index.result.now = subst (λ a. c.index.result.now ≡ get_or s.members.items a c.index.result.now) c.a.view_is c.index.ensures in
-    let numbers : c.deref-2.result.now ≡ members_of (kept s.slots.items) c.args.a s.order.items = c.deref-2.ensures.value ∙ members-kept s c.index.result.now c.args.a c.self.invariant below at in
-    says-some s c.args.self.now c.args.a (map seen_part c.args.shared.now) c.first_open.result c.self.view_is
-    (c.first_open.ensures ∙ ap (λ slots. find (is_open slots s.shared (map seen_part c.args.shared.now)) c.deref-2.result.now) c.deref.ensures.value
-    ∙ ap (find (is_open s.slots.items s.shared (map seen_part c.args.shared.now))) numbers)
-
-pub returns-clause-none : goal.returns-clause-none
-returns-clause-none c =
-    let s = c.self.inside in
-    let below : c.args.a < length s.archetypes.items = subst (λ (v : StoreState). c.args.a < length v.archetypes) (sym c.self.view_is) c.requires in
-    let at : c.index.result.now ≡ get_or s.members.items c.args.a c.index.result.now = subst (λ a. c.index.result.now ≡ get_or s.members.items a c.index.result.now) c.a.view_is c.index.ensures in
-    let numbers : c.deref-2.result.now ≡ members_of (kept s.slots.items) c.args.a s.order.items = c.deref-2.ensures.value ∙ members-kept s c.index.result.now c.args.a c.self.invariant below at in
-    says-none s c.args.self.now c.args.a (map seen_part c.args.shared.now) c.first_open.result c.self.view_is
-    (c.first_open.ensures ∙ ap (λ slots. find (is_open slots s.shared (map seen_part c.args.shared.now)) c.deref-2.result.now) c.deref.ensures.value
-    ∙ ap (find (is_open s.slots.items s.shared (map seen_part c.args.shared.now))) numbers)
+    let parts : List (PartOf Value) = map seen_part c.args.shared.now in
+    let ids : List ℕ = c.in-Some.ids.items in
+    let stand : StandAll s.shared parts ids = subst (λ o. AreIdsFor s.shared parts (option_map (λ v. v.items) o)) c.in-Some.is c.in_ok-find_ids.ensures in
+    let is : c.first_in.result ≡ first_number (homes_of s.homes.items) s.order.items (get same_home s.found (record { archetype = c.args.a; ids = ids })) =
+    c.first_in.ensures
+    ∙ ap (λ hs. first_number (homes_of hs) c.deref-in-Some.result.now (get same_home s.found (record { archetype = c.a.inside.0; ids = c.from_vec.result }))) c.deref.ensures.value
+    ∙ ap (λ os. first_number (homes_of s.homes.items) os (get same_home s.found (record { archetype = c.a.inside.0; ids = c.from_vec.result }))) c.deref-in-Some.ensures.value
+    ∙ ap (λ k. first_number (homes_of s.homes.items) s.order.items (get same_home s.found (record { archetype = k; ids = c.from_vec.result }))) c.a.view_is
+    ∙ ap (λ is. first_number (homes_of s.homes.items) s.order.items (get same_home s.found (record { archetype = c.args.a; ids = is }))) c.from_vec.ensures in
+    subst (λ (v : StoreState). MatchOption c.first_in.result (is_full c.args.a parts v.blocks ≡ true) (λ n. IsFirstWithRoom c.args.a parts n v.blocks)) c.self.view_is
+    (subst (λ r. MatchOption r (is_full c.args.a parts (view_of s).blocks ≡ true) (λ n. IsFirstWithRoom c.args.a parts n (view_of s).blocks)) (sym is) (answers s c.self.invariant c.has_one_each.ensures c.args.a parts ids stand))

@@ -1,17 +1,12 @@
-use Rattle.std.proofs.Common.{◌≡◌, ℕ, ◌<◌, ◌++◌, ◌∷◌, [], List, Bool, not, length, map, sym, ap, ◌∙◌, refl, subst, Some, arith}
-use Rattle.std.specs.Prelude.{slice_set, fold}
-use Rattle.std.specs.List.{flat_map}
+use Rattle.std.proofs.Common.{◌≡◌, ℕ, ◌<◌, length, ◌∙◌, refl, arith}
+use Rattle.std.specs.Prelude.{slice_set}
 use Rattle.buffer_store.specs.Buffers.{Buffer, buffer}
 use Rattle.ent_types.specs.declared.entity.TypeId.{TypeId}
 use Rattle.ent_types.specs.declared.value.Value.{Value}
-use Rattle.block_columns.specs.Types.{TypeState, with_values, TakesElements}
-use Rattle.chunk_block.specs.Blocks.{BlockState, LoanState, IsLoanOf, AreHeld, OfType, changed, content_at, given_rows, given_type, lent_piece, lent_row, lent_type, row_in}
-use Rattle.archetype_store.specs.declared.slots.Held.{Held}
-use Rattle.archetype_store.specs.Slots.{slot_at}
-use Rattle.archetype_store.specs.Stores.{StoreState, OfBlock}
-use Rattle.archetype_store.specs.Inside.{beside, Beside}
-use Rattle.archetype_store.proofs.Shapes.{shapes-lent, shapes-given}
-use Rattle.archetype_store.proofs.Writes.{number-below, slot-found, slot-used, block-is, of-block, of-new-block, store-written, orderly-written}
+use Rattle.block_columns.specs.Types.{with_values, TakesElements}
+use Rattle.chunk_block.specs.Blocks.{BlockState, OfType, changed, content_at, row_in}
+use Rattle.archetype_store.proofs.Writes.{number-below, slot-found, slot-used, block-is, of-block, store-written, consistent-written}
+use Rattle.std.proofs.lemmas.List.{length-set}
 use Rattle.archetype_store.proofs.store.ArchetypeStore.put_elements.Goals as goal
 
 abbrev Asked : ℕ → TypeId → Buffer Value → BlockState → Type 0
@@ -33,7 +28,7 @@ pub put_elements-requires-clause-there : goal.put_elements-requires-clause-there
 put_elements-requires-clause-there c = (block-is c.self.inside c.args.self.now c.self.view_is c.args.number (Asked c.args.row c.args.ty c.args.new) c.requires c.in-Some.held (slot-found c.self.inside c.args.self.now c.self.view_is c.args.number (Asked c.args.row c.args.ty c.args.new) c.requires c.index_mut.result.now c.index_mut.ensures.value ∙ c.in-Some.is)).1
 
 pub invariant_of-self : goal.invariant_of-self
-invariant_of-self c = orderly-written c.self.inside c.args.self.now c.self.view_is c.args.number (Asked c.args.row c.args.ty c.args.new) c.requires c.in-Some.held (after c.args.row c.args.ty c.args.new) c.put_elements.new.self (slot-found c.self.inside c.args.self.now c.self.view_is c.args.number (Asked c.args.row c.args.ty c.args.new) c.requires c.index_mut.result.now c.index_mut.ensures.value ∙ c.in-Some.is) c.put_elements.ensures.new refl c.self.invariant
+invariant_of-self c = consistent-written c.self.inside c.args.self.now c.self.view_is c.args.number (Asked c.args.row c.args.ty c.args.new) c.requires c.in-Some.held (after c.args.row c.args.ty c.args.new) c.put_elements.new.self (slot-found c.self.inside c.args.self.now c.self.view_is c.args.number (Asked c.args.row c.args.ty c.args.new) c.requires c.index_mut.result.now c.index_mut.ensures.value ∙ c.in-Some.is) c.put_elements.ensures.new refl (length-set c.in-Some.held.block.rows c.args.row _) c.self.invariant
 
 pub returns-clause-new : goal.returns-clause-new
 returns-clause-new c = store-written c.self.inside c.args.self.now c.self.view_is c.args.number (Asked c.args.row c.args.ty c.args.new) c.requires c.in-Some.held (after c.args.row c.args.ty c.args.new) c.put_elements.new.self (slot-found c.self.inside c.args.self.now c.self.view_is c.args.number (Asked c.args.row c.args.ty c.args.new) c.requires c.index_mut.result.now c.index_mut.ensures.value ∙ c.in-Some.is) c.put_elements.ensures.new

@@ -1,12 +1,9 @@
-use Rattle.std.proofs.Common.{◌≡◌, ℕ, ◌<◌, ◌++◌, ◌∷◌, [], Bool, not, length, sym, ap, ◌∙◌, refl, subst, Some, arith}
+use Rattle.std.proofs.Common.{ℕ, ◌<◌, length, ◌∙◌, refl, arith}
 use Rattle.std.specs.Prelude.{slice_set}
 use Rattle.ent_types.specs.declared.entity.Entity.{Entity}
-use Rattle.ent_types.specs.declared.entity.TypeId.{TypeId}
-use Rattle.ent_types.specs.declared.value.Value.{Value}
-use Rattle.system_version.specs.declared.version.SystemVersion.{SystemVersion}
-use Rattle.block_columns.specs.Types.{with_value, with_off, TakesValue, IsEnableable}
-use Rattle.chunk_block.specs.Blocks.{BlockState, OfType, changed, row_in, with_mark}
-use Rattle.archetype_store.proofs.Writes.{number-below, slot-found, slot-used, block-is, store-written, orderly-written}
+use Rattle.chunk_block.specs.Blocks.{BlockState, row_in}
+use Rattle.archetype_store.proofs.Writes.{number-below, slot-found, slot-used, block-is, store-written, consistent-written}
+use Rattle.std.proofs.lemmas.List.{length-set}
 use Rattle.archetype_store.proofs.store.ArchetypeStore.put_entity.Goals as goal
 
 abbrev Asked : ℕ → BlockState → Type 0
@@ -25,7 +22,7 @@ pub unreachable-requires : goal.unreachable-requires
 unreachable-requires c = slot-used c.self.inside c.args.self.now c.self.view_is c.args.number (Asked c.args.row) c.requires c.index_mut.result.now c.index_mut.ensures.value c.in-None.is
 
 pub invariant_of-self : goal.invariant_of-self
-invariant_of-self c = orderly-written c.self.inside c.args.self.now c.self.view_is c.args.number (Asked c.args.row) c.requires c.in-Some.held (after c.args.row c.args.e) c.put_entity.new.self (slot-found c.self.inside c.args.self.now c.self.view_is c.args.number (Asked c.args.row) c.requires c.index_mut.result.now c.index_mut.ensures.value ∙ c.in-Some.is) c.put_entity.ensures refl c.self.invariant
+invariant_of-self c = consistent-written c.self.inside c.args.self.now c.self.view_is c.args.number (Asked c.args.row) c.requires c.in-Some.held (after c.args.row c.args.e) c.put_entity.new.self (slot-found c.self.inside c.args.self.now c.self.view_is c.args.number (Asked c.args.row) c.requires c.index_mut.result.now c.index_mut.ensures.value ∙ c.in-Some.is) c.put_entity.ensures refl (length-set c.in-Some.held.block.rows c.args.row _) c.self.invariant
 
 pub returns : goal.returns
 returns c = store-written c.self.inside c.args.self.now c.self.view_is c.args.number (Asked c.args.row) c.requires c.in-Some.held (after c.args.row c.args.e) c.put_entity.new.self (slot-found c.self.inside c.args.self.now c.self.view_is c.args.number (Asked c.args.row) c.requires c.index_mut.result.now c.index_mut.ensures.value ∙ c.in-Some.is) c.put_entity.ensures
