@@ -1,0 +1,14 @@
+pub mod Lists
+pub mod Rows
+pub mod Numbers
+pub mod Marks
+pub mod Looking
+pub mod Kept
+pub mod Rewriting
+pub mod Tables
+pub mod Leaving
+pub mod Entering
+pub mod Moving
+pub mod Empty
+pub mod Worlds
+pub mod Steps

@@ -1,0 +1,12 @@
+pub mod Effects
+pub mod Filled
+pub mod Fitting
+pub mod Composed
+pub mod Reading
+pub mod Becoming
+pub mod Rewritten
+pub mod CodeLawful
+pub mod PartsAre
+pub mod Apart
+pub mod Buffers
+pub mod Opened
