@@ -1,5 +1,5 @@
 -- A mask that is made row by row.
-use Rattle.std.proofs.Common.{ℕ, ℤ, inl, inr, ◌≡◌, ◌<◌, ◌≤◌, ◌+◌, ◌∙◌, Bool, true, false, sym, ap, List, arith}
+use Rattle.std.proofs.Common.{ℕ, ℤ, inl, inr, ◌≡◌, ◌<◌, ◌≤◌, ◌+◌, ◌∙◌, Bool, false, sym, ap, List, arith}
 use Rattle.std.proofs.lemmas.Bool.{cases_eq}
 use Rattle.enable_bits.specs.Masks.{has, with_place}
 use Rattle.expr_eval.specs.Values.{is_true}

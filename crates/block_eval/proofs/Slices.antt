@@ -1,7 +1,6 @@
 -- The numbers and references of a column's values, also past the end.
 use Rattle.std.proofs.Common.{ℕ, ℤ, zero, suc, pos, ◌≡◌, refl, List, [], ◌∷◌, map}
 use Rattle.ent_types.specs.declared.entity.Entity.{Entity}
-use Rattle.ent_types.specs.declared.value.Value.{Value}
 use Rattle.ent_types.specs.declared.value.Value.TheVariants.{Int, Ref}
 use Rattle.ent_types.specs.Fitting.{null_entity}
 use Rattle.expr_eval.specs.Values.{number, entity}

@@ -13,7 +13,9 @@ use crate::columns::{
     copy_references, count_from, fill, fill_references, indexes, numbers_of, references_of,
     true_rows, truth, truths, versions,
 };
-use crate::operators::{combine, combine_field, combine_fields, combine_number, pick_all, unary_all};
+use crate::operators::{
+    combine, combine_field, combine_fields, combine_number, pick_all, unary_all,
+};
 use crate::reader::{BlockRows, MOST_ROWS};
 use enable_bits::Mask;
 use ent_types::{Entity, TypeId};

@@ -1,5 +1,5 @@
 -- Pieces of different types come back in any order.
-use Rattle.std.proofs.Common.{ℕ, zero, suc, ◌≡◌, ◌+◌, ◌∙◌, sym, ap, refl, Bool, true, false, cond, nat_eq, List, [], ◌∷◌, fold, arith}
+use Rattle.std.proofs.Common.{ℕ, ◌≡◌, ◌+◌, ◌∙◌, ap, refl, Bool, true, false, cond, nat_eq, List, [], ◌∷◌, fold, arith}
 use Rattle.std.proofs.lemmas.Bool.Decides.{nat_tests}
 use Rattle.world_model.specs.Row.{Row, Cell}
 use Rattle.block_columns.specs.Places.{at_places}

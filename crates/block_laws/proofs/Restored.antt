@@ -1,15 +1,12 @@
 -- What is lent and given back unchanged leaves the block as it was.
-use Rattle.std.proofs.Common.{ℕ, zero, suc, ◌≡◌, ◌<◌, ◌+◌, ◌∙◌, ◌||◌, sym, ap, refl, subst, Bool, true, false, cond, nat_eq, List, [], ◌∷◌, ◌++◌, fold, length, map, drop, get_or, arith}
+use Rattle.std.proofs.Common.{ℕ, ◌≡◌, ◌<◌, ◌∙◌, sym, ap, refl, subst, Bool, true, false, cond, nat_eq, List, [], ◌∷◌, ◌++◌, fold, length, map, drop, get_or}
 use Rattle.std.specs.List.{flat_map}
-use Rattle.std.proofs.lemmas.Bool.Decides.{nat_tests}
 use Rattle.std.proofs.lemmas.List.{ext_get_or, length-map, get_or-map}
 use Rattle.ent_types.specs.TypeSets.{has_type}
 use Rattle.world_model.specs.Row.{Row, Cell}
-use Rattle.block_columns.specs.Places.{at_places}
 use Rattle.block_columns.specs.Types.{TypeState, Content, blank_cell, cell_in}
-use Rattle.block_columns.proofs.Lists.{length-at_places, get_or-at_places}
 use Rattle.block_laws.proofs.Rows.{or_parts, other_way, itself, put_cell, put_row, row_cells, row_given, rows_count, have_there}
-use Rattle.chunk_block.specs.Blocks.{BlockType, BlockState, AreDistinct, AreHeld, HaveTypes, column_types, content_of, content_at, with_content, change_cell, changed, no_row, row_in, lent_type, lent_cell, lent_row, lent_piece, given_type, given_rows}
+use Rattle.chunk_block.specs.Blocks.{BlockType, BlockState, AreDistinct, AreHeld, HaveTypes, column_types, content_of, content_at, with_content, no_row, row_in, lent_type, lent_cell, lent_row, lent_piece, given_type, given_rows}
 
 module _ (types : List ℕ) (cap : ℕ) (rows : List Row) where
   -- the pieces that these types give to a loan

@@ -1,5 +1,5 @@
 -- The rows of a block to which pieces came back, one by one.
-use Rattle.std.proofs.Common.{ℕ, zero, suc, ◌≡◌, ◌<◌, ◌+◌, ◌∙◌, ◌||◌, sym, ap, refl, subst, Bool, true, false, nat_eq, List, [], ◌∷◌, fold, length, map, arith}
+use Rattle.std.proofs.Common.{ℕ, zero, suc, ◌≡◌, ◌<◌, ◌∙◌, ◌||◌, sym, ap, refl, subst, Bool, true, false, nat_eq, List, [], ◌∷◌, fold, length, map, arith}
 use Rattle.std.proofs.lemmas.Bool.Decides.{nat_tests}
 use Rattle.world_model.specs.Row.{Row, Cell}
 use Rattle.block_columns.specs.Types.{TypeState, cell_in}

@@ -1,5 +1,5 @@
 -- What was written into a loan is in its block once the loan is back.
-use Rattle.std.proofs.Common.{ℕ, ℤ, zero, suc, inl, inr, ◌≡◌, ◌≢◌, ◌<◌, ◌≤◌, ◌+◌, ◌∙◌, ◌||◌, sym, ap, refl, subst, Bool, true, false, cond, nat_eq, List, [], ◌∷◌, ◌++◌, fold, length, map, drop, get_or, get_or-set_same, get_or-set_other, arith}
+use Rattle.std.proofs.Common.{ℕ, ℤ, inl, inr, ◌≡◌, ◌<◌, ◌≤◌, ◌+◌, ◌∙◌, ◌||◌, sym, ap, refl, subst, Bool, true, false, cond, nat_eq, List, [], ◌∷◌, ◌++◌, fold, length, map, drop, get_or, get_or-set_same, get_or-set_other, arith}
 use Rattle.std.specs.Bool.{MatchBool}
 use Rattle.std.specs.List.{flat_map}
 use Rattle.std.proofs.Math.ListN.{set}

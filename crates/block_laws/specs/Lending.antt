@@ -2,7 +2,7 @@
 use Rattle.std.specs.Prelude.{ℕ, ◌≡◌, ◌<◌, false, List, [], ◌∷◌, nat_eq, map, fold}
 use Rattle.std.specs.List.{flat_map}
 use Rattle.block_columns.specs.Types.{TypeState, Content, cell_in}
-use Rattle.chunk_block.specs.Blocks.{BlockState, LoanState, BlockType, lent_type, lent_row, lent_piece, given_type, given_rows}
+use Rattle.chunk_block.specs.Blocks.{BlockState, LoanState, lent_type, lent_row, lent_piece, given_type, given_rows}
 
 -- the block after these types were lent, and the pieces of the loan
 abbrev pub after_lending : List ℕ → BlockState → BlockState

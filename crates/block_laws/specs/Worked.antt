@@ -3,8 +3,7 @@ use Rattle.std.specs.Prelude.{ℕ, ℤ, pos, Bool, true, false, List, [], ◌∷
 use Rattle.ent_types.specs.declared.kinds.FieldKind.TheVariants.{I32}
 use Rattle.ent_types.specs.declared.value.Value.TheVariants.{Int}
 use Rattle.world_model.specs.Row.{Row}
-use Rattle.block_columns.specs.Types.{TypeState, one_row, with_value, with_off}
-use Rattle.block_columns.specs.declared.shape.TypeShape.{TypeShape}
+use Rattle.block_columns.specs.Types.{one_row, with_value, with_off}
 use Rattle.chunk_block.specs.Pieces.{change_piece}
 use Rattle.chunk_block.specs.Blocks.{BlockType, BlockState, LoanState}
 use Rattle.block_laws.specs.Lending.{lent_pieces}

@@ -31,14 +31,7 @@ pub fn writes_follow()
 {}
 
 /// Lends some types, writes a value into a row through the loan and gives it back. It is the write on the block.
-pub fn field_set(
-    block: &mut Block,
-    types: &TypeSet,
-    row: u32,
-    ty: TypeId,
-    field: u8,
-    value: Value,
-)
+pub fn field_set(block: &mut Block, types: &TypeSet, row: u32, ty: TypeId, field: u8, value: Value)
     requires among { has_type types.now ty.0 ≡ true }
     requires held { AreHeld types.now block.old.columns }
     requires within { row < length block.old.rows }

@@ -1,4 +1,4 @@
-use Rattle.std.proofs.Common.{◌≡◌, ◌∙◌, ap}
+use Rattle.std.proofs.Common.{◌∙◌, ap}
 use Rattle.chunk_block.specs.Blocks.{BlockState}
 use Rattle.block_laws.specs.Lending.{given_back}
 use Rattle.block_laws.proofs.Orders.{given_turned}

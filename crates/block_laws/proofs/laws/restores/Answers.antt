@@ -1,6 +1,5 @@
-use Rattle.std.proofs.Common.{ℕ, ◌≡◌, ◌∙◌, sym, ap, subst, fold, map}
-use Rattle.std.specs.List.{flat_map}
-use Rattle.chunk_block.specs.Blocks.{BlockState, LoanState, IsLoanOf, lent_type, lent_row, given_type, given_rows}
+use Rattle.std.proofs.Common.{◌∙◌, ap, map}
+use Rattle.chunk_block.specs.Blocks.{BlockState, LoanState, lent_type, lent_row}
 use Rattle.block_laws.specs.Lending.{given_back}
 use Rattle.block_laws.proofs.Restored.{restored}
 use Rattle.block_laws.proofs.laws.restores.Goals as goal

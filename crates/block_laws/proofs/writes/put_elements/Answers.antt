@@ -1,15 +1,13 @@
-use Rattle.std.proofs.Common.{ℕ, ◌≡◌, ◌<◌, ◌∙◌, true, not, sym, ap, subst, length, map, List}
+use Rattle.std.proofs.Common.{◌≡◌, ◌<◌, ◌∙◌, sym, ap, subst, length}
 use Rattle.std.proofs.lemmas.List.{get_or-map}
 use Rattle.world_model.specs.Row.{Row}
-use Rattle.ent_types.specs.TypeSets.{has_type}
 use Rattle.buffer_store.specs.Buffers.{buffer}
-use Rattle.block_columns.specs.Types.{TypeState, Content, blank_cell, cell_in, with_value, with_off, with_values, with_number_in, with_reference_in, with_enabled_in, one_row, all_rows, TakesValue, TakesNumbers, TakesReferences, TakesElements, IsEnableable}
-use Rattle.block_columns.specs.declared.shape.TypeShape.{TypeShape}
-use Rattle.chunk_block.specs.Pieces.{OfPiece, InRow, OfRows, OfShape, stored_numbers, change_piece}
-use Rattle.chunk_block.specs.Blocks.{BlockState, LoanState, OfType, content_at, no_row, row_in}
-use Rattle.chunk_block.proofs.Loans.{of_piece, lent_there}
-use Rattle.block_laws.specs.Lending.{after_lending, given_back, lent_pieces}
-use Rattle.block_laws.proofs.Written.{with_row, one_row_back, numbers_back, each_row_back, read_back}
+use Rattle.block_columns.specs.Types.{Content, blank_cell, cell_in, with_values, one_row, TakesElements}
+use Rattle.chunk_block.specs.Pieces.{OfPiece, InRow, change_piece}
+use Rattle.chunk_block.specs.Blocks.{BlockState, LoanState, OfType, content_at, no_row}
+use Rattle.chunk_block.proofs.Loans.{of_piece}
+use Rattle.block_laws.specs.Lending.{given_back, lent_pieces}
+use Rattle.block_laws.proofs.Written.{with_row, one_row_back, read_back}
 use Rattle.block_laws.proofs.writes.put_elements.Goals as goal
 
 pub put_elements-old-requires : goal.put_elements-old-requires

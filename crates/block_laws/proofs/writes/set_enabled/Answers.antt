@@ -1,14 +1,10 @@
-use Rattle.std.proofs.Common.{ℕ, ◌≡◌, ◌<◌, ◌∙◌, true, not, sym, ap, subst, length, map, List}
-use Rattle.std.specs.List.{flat_map}
-use Rattle.ent_types.specs.TypeSets.{has_type}
-use Rattle.buffer_store.specs.Buffers.{buffer}
-use Rattle.block_columns.specs.Types.{TypeState, cell_in, with_value, with_off, with_values, with_number_in, with_reference_in, with_enabled_in, one_row, all_rows, TakesValue, TakesNumbers, TakesReferences, TakesElements, IsEnableable}
-use Rattle.block_columns.specs.declared.shape.TypeShape.{TypeShape}
-use Rattle.chunk_block.specs.Pieces.{OfPiece, InRow, OfRows, OfShape, stored_numbers, change_piece}
-use Rattle.chunk_block.specs.Blocks.{BlockState, LoanState, OfType, kind_at}
-use Rattle.chunk_block.proofs.Loans.{of_piece, lent_there}
-use Rattle.block_laws.specs.Lending.{after_lending, given_back, lent_pieces}
-use Rattle.block_laws.proofs.Written.{with_row, one_row_back, numbers_back, each_row_back, read_back}
+use Rattle.std.proofs.Common.{◌<◌, ◌∙◌, not, sym, ap, subst, length}
+use Rattle.block_columns.specs.Types.{with_off, one_row, IsEnableable}
+use Rattle.chunk_block.specs.Pieces.{OfPiece, InRow, change_piece}
+use Rattle.chunk_block.specs.Blocks.{BlockState, LoanState}
+use Rattle.chunk_block.proofs.Loans.{of_piece}
+use Rattle.block_laws.specs.Lending.{given_back, lent_pieces}
+use Rattle.block_laws.proofs.Written.{with_row, one_row_back}
 use Rattle.block_laws.proofs.writes.set_enabled.Goals as goal
 
 pub set_enabled-requires : goal.set_enabled-requires
