@@ -48,7 +48,7 @@ fn fields_of(alloc: Global, kinds: &[FieldKind]) -> Result<Sequence<FieldInfo>, 
 }
 
 /// Declares a type.
-fn declare(
+pub fn declare(
     alloc: Global,
     registry: &mut Registry,
     name: &[u8],
