@@ -1,6 +1,7 @@
 -- What a block is after a row was pushed, filled and marked.
-use Rattle.std.proofs.Common.{ℕ, ◌≡◌, ◌+◌, ◌<◌, ◌∙◌, Bool, true, false, sym, ap, refl, subst, List, [], ◌∷◌, ◌++◌, length, set, map, fold, arith}
-use Rattle.std.proofs.lemmas.List.{length-set, length-append}
+use Rattle.std.proofs.Common.{ℕ, ◌≡◌, ◌+◌, ◌<◌, ◌∙◌, Bool, true, false, sym, ap, refl, subst, List, [], ◌∷◌, ◌++◌, length, set, map, fold, reverse, arith}
+use Rattle.std.specs.Prelude.{⊤}
+use Rattle.std.proofs.lemmas.List.{append-nil, length-set, length-append}
 use Rattle.std.proofs.Math.Seq.{get_or-append_seam, set-append_seam}
 use Rattle.ent_types.specs.declared.entity.Entity.{Entity}
 use Rattle.ent_types.specs.declared.type_info.TypeInfo.{TypeInfo}
@@ -10,17 +11,18 @@ use Rattle.world_model.specs.Part.{PartOf}
 use Rattle.world_model.specs.Row.{Row}
 use Rattle.world_model.specs.World.{Mark, mark_type}
 use Rattle.world_model.specs.Enter.{marks_at}
-use Rattle.chunk_block.specs.Blocks.{BlockState, BlockType, no_row, row_in, new_row, new_types, with_mark}
+use Rattle.chunk_block.specs.Blocks.{BlockState, BlockType, IsWhole, no_row, row_in, new_row, new_types, with_mark}
+use Rattle.chunk_block.proofs.New.{whole_new}
 use Rattle.archetype_store.specs.Stores.{Numbered, StoreState, OfNumber, OfBlock, with_block, with_block_in}
 use Rattle.world_places.specs.Placing.{row_entered, order_marked, numbers_of}
 use Rattle.world_places.proofs.Numbers.{block_twice, block_same, of_changed, of_more, of_both}
 use Rattle.world_places.proofs.Marks.{all_marked as all_marks}
 use Rattle.world_rows.specs.Rows.{AreParts, row_from}
-use Rattle.world_rows.specs.Writes.{Write, AllTake, Takes, CanWrite, row_write, row_writes, block_write, block_writes, written, value_writes, bit_writes, all_type_writes, fill_writes}
+use Rattle.world_rows.specs.Writes.{Write, AllTake, Takes, CanWrite, row_write, row_writes, block_write, block_writes, written, value_writes, bit_writes, all_type_writes, buffer_writes, fill_writes}
 use Rattle.world_rows.specs.Marks.{block_marked, all_marked}
 use Rattle.world_rows.specs.Entering.{IsOpen}
 use Rattle.world_rows.proofs.Filled.{filled}
-use Rattle.world_rows.proofs.Fitting.{take_left, take_right}
+use Rattle.world_rows.proofs.Fitting.{fill_takes, take_left, take_right}
 
 -- ---- writes one after another
 
@@ -88,12 +90,9 @@ dying_end rs r on b =
 abbrev pub pushed : Entity → BlockState → BlockState
 pushed e b = record b { rows = b.rows ++ new_row b.columns e ∷ [] }
 
--- what `enter` makes of a block, if it says that the row is dying, and if it doesn't
-abbrev pub entered_dying : ℕ → ℕ → List Write → List ℕ → Entity → BlockState → BlockState
-entered_dying k now ws types e b = order_marked now (marks_all now types (dying_set k true (block_writes k ws (pushed e b))))
-
-abbrev pub entered_alive : ℕ → ℕ → List Write → List ℕ → Entity → BlockState → BlockState
-entered_alive k now ws types e b = order_marked now (marks_all now types (block_writes k ws (pushed e b)))
+-- a block after a row was pushed, filled, said to be dying or not, and marked
+abbrev pub row_put_last : ℕ → ℕ → List Write → List ℕ → Entity → Bool → BlockState → BlockState
+row_put_last k now ws types e dying b = order_marked now (marks_all now types (dying_set k dying (block_writes k ws (pushed e b))))
 
 module _ (registry : List TypeInfo) (types : List ℕ) (parts : List (PartOf Value)) (off : List ℕ) (are : AreParts registry types parts off) (distinct : AreDistinct types) (e : Entity) (now k : ℕ) where
   abbrev ws : List Write
@@ -112,42 +111,27 @@ module _ (registry : List TypeInfo) (types : List ℕ) (parts : List (PartOf Val
       ∙ ap (λ ms. let c : BlockState = record b { rows = b.rows ++ row ∷ []; marks = ms; order = now } in c)
       (all_marks now types b.marks distinct opened.marked ∙ ap (marks_at now) (sym opened.types_are))
 
-  pub alive_end : (b : BlockState) → IsOpen registry types b → k ≡ length b.rows
-      → entered_alive k now (fill_writes registry types parts off) types e b ≡ row_entered now (row_from registry types parts off e false) b
-  alive_end b opened last =
-      ap (λ c. order_marked now (marks_all now types c)) (one_filled b opened.columns last) ∙ marks_end (row_from registry types parts off e false) b opened
-
-  pub dying_ends : (b : BlockState) → IsOpen registry types b → k ≡ length b.rows
-      → entered_dying k now (fill_writes registry types parts off) types e b ≡ row_entered now (row_from registry types parts off e true) b
-  dying_ends b opened last =
-      ap (λ c. order_marked now (marks_all now types (dying_set k true c))) (one_filled b opened.columns last)
-      ∙ ap (λ j. order_marked now (marks_all now types (dying_set j true (record b { rows = b.rows ++ row_from registry types parts off e false ∷ [] })))) last
-      ∙ ap (λ c. order_marked now (marks_all now types c)) (dying_end b.rows (row_from registry types parts off e false) true b)
-      ∙ marks_end (row_from registry types parts off e true) b opened
+  pub row_ends : (dying : Bool) (b : BlockState) → IsOpen registry types b → k ≡ length b.rows
+      → row_put_last k now (fill_writes registry types parts off) types e dying b ≡ row_entered now (row_from registry types parts off e dying) b
+  row_ends dying b opened last =
+      ap (λ c. order_marked now (marks_all now types (dying_set k dying c))) (one_filled b opened.columns last)
+      ∙ ap (λ j. order_marked now (marks_all now types (dying_set j dying (record b { rows = b.rows ++ row_from registry types parts off e false ∷ [] })))) last
+      ∙ ap (λ c. order_marked now (marks_all now types c)) (dying_end b.rows (row_from registry types parts off e false) dying b)
+      ∙ marks_end (row_from registry types parts off e dying) b opened
 
   -- ---- the store
 
   module _ (mid : StoreState) (n : ℕ) (numbers : AreDistinct (numbers_of mid.blocks)) (there : OfBlock n (IsOpen registry types) mid.blocks) (last : OfBlock n (λ b. k ≡ length b.rows) mid.blocks) where
-    pub alive_entered : with_block_in n (order_marked now) (all_marked n now types (written n k (fill_writes registry types parts off) (with_block_in n (pushed e) mid)))
-        ≡ with_block_in n (row_entered now (row_from registry types parts off e false)) mid
-    alive_entered =
-        ap (λ s. with_block_in n (order_marked now) (all_marked n now types s)) (written_is n k ws (pushed e) mid)
-        ∙ ap (with_block_in n (order_marked now)) (marked_is n now types (λ b. block_writes k ws (pushed e b)) mid)
+    pub row_is_entered : (dying : Bool) → with_block_in n (order_marked now) (all_marked n now types (with_block_in n (dying_set k dying) (written n k (fill_writes registry types parts off) (with_block_in n (pushed e) mid))))
+        ≡ with_block_in n (row_entered now (row_from registry types parts off e dying)) mid
+    row_is_entered dying =
+        ap (λ s. with_block_in n (order_marked now) (all_marked n now types (with_block_in n (dying_set k dying) s))) (written_is n k ws (pushed e) mid)
+        ∙ ap (λ (bs : List Numbered). with_block_in n (order_marked now) (all_marked n now types (record mid { blocks = bs }))) (block_twice n (dying_set k dying) (λ b. block_writes k ws (pushed e b)) mid.blocks)
+        ∙ ap (with_block_in n (order_marked now)) (marked_is n now types (λ b. dying_set k dying (block_writes k ws (pushed e b))) mid)
         ∙ ap (λ (bs : List Numbered). record mid { blocks = bs })
-        (block_twice n (order_marked now) (λ b. marks_all now types (block_writes k ws (pushed e b))) mid.blocks
-        ∙ block_same n (entered_alive k now ws types e) (row_entered now (row_from registry types parts off e false)) mid.blocks numbers
-        (of_both n _ _ _ mid.blocks (λ b is at. alive_end b.block is at) there last))
-
-    pub dying_entered : with_block_in n (order_marked now) (all_marked n now types (with_block_in n (dying_set k true) (written n k (fill_writes registry types parts off) (with_block_in n (pushed e) mid))))
-        ≡ with_block_in n (row_entered now (row_from registry types parts off e true)) mid
-    dying_entered =
-        ap (λ s. with_block_in n (order_marked now) (all_marked n now types (with_block_in n (dying_set k true) s))) (written_is n k ws (pushed e) mid)
-        ∙ ap (λ (bs : List Numbered). with_block_in n (order_marked now) (all_marked n now types (record mid { blocks = bs }))) (block_twice n (dying_set k true) (λ b. block_writes k ws (pushed e b)) mid.blocks)
-        ∙ ap (with_block_in n (order_marked now)) (marked_is n now types (λ b. dying_set k true (block_writes k ws (pushed e b))) mid)
-        ∙ ap (λ (bs : List Numbered). record mid { blocks = bs })
-        (block_twice n (order_marked now) (λ b. marks_all now types (dying_set k true (block_writes k ws (pushed e b)))) mid.blocks
-        ∙ block_same n (entered_dying k now ws types e) (row_entered now (row_from registry types parts off e true)) mid.blocks numbers
-        (of_both n _ _ _ mid.blocks (λ b is at. dying_ends b.block is at) there last))
+        (block_twice n (order_marked now) (λ b. marks_all now types (dying_set k dying (block_writes k ws (pushed e b)))) mid.blocks
+        ∙ block_same n (row_put_last k now ws types e dying) (row_entered now (row_from registry types parts off e dying)) mid.blocks numbers
+        (of_both n _ _ _ mid.blocks (λ b is at. row_ends dying b.block is at) there last))
 
 -- ---- the writes of one type after another
 
@@ -172,3 +156,36 @@ module _ (registry : List TypeInfo) (parts : List (PartOf Value)) (off : List �
     pub can_types : CanWrite n k (all_type_writes registry parts off ts) (written n k (bit_writes registry off t) (written n k (value_writes registry parts t) s))
     can_types =
         subst (CanWrite n k (all_type_writes registry parts off ts)) (written_append n k values bits s) (can_after n k (values ++ bits) (all_type_writes registry parts off ts) s can)
+
+-- ---- what the calls ask on the way
+
+module _ (registry : List TypeInfo) (types : List ℕ) (parts : List (PartOf Value)) (off : List ℕ) (are : AreParts registry types parts off) (e : Entity) (k n : ℕ) (mid : StoreState)
+    (there : OfBlock n (IsOpen registry types) mid.blocks) where
+  pub push_ready : OfBlock n (λ b. (length b.rows < b.capacity) × IsWhole b.columns) mid.blocks
+  push_ready = of_more n _ _ mid.blocks (λ b is. (is.room, subst IsWhole (sym is.columns) (whole_new registry types))) there
+
+  module _ (last : OfBlock n (λ b. k ≡ length b.rows) mid.blocks) where
+    fill_can : CanWrite n k (fill_writes registry types parts off) (with_block_in n (pushed e) mid)
+    fill_can =
+        of_changed n (pushed e) (λ (b : Numbered). (k < length b.block.rows) × AllTake (fill_writes registry types parts off) b.block.columns) mid.blocks
+        (of_both n _ _ _ mid.blocks
+        (λ b is at. (omega (arith, at, length-append b.block.rows (new_row b.block.columns e ∷ [])), subst (AllTake (fill_writes registry types parts off)) (sym is.columns) (fill_takes registry types parts off are)))
+        there last)
+
+    pub types_can : CanWrite n k (all_type_writes registry parts off types) (with_block_in n (pushed e) mid)
+    types_can = can_left n k (all_type_writes registry parts off types) (reverse (buffer_writes registry types parts)) (with_block_in n (pushed e) mid) fill_can
+
+    pub buffers_can : CanWrite n k (reverse (buffer_writes registry types parts)) (written n k (all_type_writes registry parts off types) (with_block_in n (pushed e) mid))
+    buffers_can = can_after n k (all_type_writes registry parts off types) (reverse (buffer_writes registry types parts)) (with_block_in n (pushed e) mid) fill_can
+
+    -- the row is still there
+    pub row_can : OfBlock n (λ b. k < length b.rows) (written n k (reverse (buffer_writes registry types parts)) (written n k (all_type_writes registry parts off types) (with_block_in n (pushed e) mid))).blocks
+    row_can =
+        of_more n _ _ _ (λ b is. is.0)
+        (can_after n k (reverse (buffer_writes registry types parts)) [] (written n k (all_type_writes registry parts off types) (with_block_in n (pushed e) mid))
+        (subst (λ ws. CanWrite n k ws (written n k (all_type_writes registry parts off types) (with_block_in n (pushed e) mid))) (sym (append-nil (reverse (buffer_writes registry types parts)))) buffers_can))
+
+-- a block that is there is there after it was marked
+pub still_there : (n now : ℕ) (ts : List ℕ) (s : StoreState) → OfBlock n (λ _. ⊤) s.blocks → OfBlock n (λ _. ⊤) (all_marked n now ts s).blocks
+still_there n now [] s there = there
+still_there n now (t ∷ ts) s there = still_there n now ts (with_block_in n (block_marked t now) s) (of_changed n (block_marked t now) (λ _. ⊤) s.blocks there)

@@ -1,11 +1,9 @@
 -- Writes into one row.
-use Rattle.std.specs.Prelude.{ℕ, ◌≡◌, ◌⊎◌, ◌+◌, ◌<◌, ◌≤◌, Bool, true, false, not, if◌then◌else◌, List, [], ◌∷◌, ◌++◌, length, map, filter, reverse, slice_set}
+use Rattle.std.specs.Prelude.{ℕ, ◌≡◌, ◌+◌, ◌<◌, Bool, true, false, not, if◌then◌else◌, List, [], ◌∷◌, ◌++◌, length, map, filter, reverse, slice_set}
 use Rattle.ent_types.specs.declared.type_info.TypeInfo.{TypeInfo}
 use Rattle.ent_types.specs.declared.value.Value.{Value}
 use Rattle.ent_types.specs.TypeLookups.{fields_at, is_shared_at, is_buffer_at}
 use Rattle.ent_types.specs.TypeSets.{has_type}
-use Rattle.ent_types.specs.declared.limits.TheConstants.{MOST_FIELDS}
-use Rattle.world_model.specs.Members.{In}
 use Rattle.world_model.specs.Part.{PartOf}
 use Rattle.world_model.specs.Row.{Row}
 use Rattle.block_columns.specs.Types.{with_value, with_off, with_values, TakesValue, TakesElements, IsEnableable, IsBuffer}
@@ -65,10 +63,6 @@ field_writes t f (v ∷ vs) = Field t f v ∷ field_writes t (f + 1) vs
 -- the values of a type that has columns
 abbrev pub value_writes : List TypeInfo → List (PartOf Value) → ℕ → List Write
 value_writes registry parts t = if is_shared_at registry t then [] else if is_buffer_at registry t then [] else field_writes t 0 (values_at t parts)
-
--- the values of each type that has columns are no more than a type has fields
-abbrev pub AreFew : List TypeInfo → List (PartOf Value) → List ℕ → Type 0
-AreFew registry parts types = (t : ℕ) → In t types → (length (values_at t parts) ≤ MOST_FIELDS) ⊎ (is_buffer_at registry t ≡ true)
 
 abbrev pub bit_writes : List TypeInfo → List ℕ → ℕ → List Write
 bit_writes registry off t = if is_shared_at registry t then [] else if has_type off t then Switch t true ∷ [] else []

@@ -1,0 +1,122 @@
+//! The world, as programs see it.
+ghost use Rattle.std.specs.Prelude.{◌≡◌, ◌≤◌, [], map, option_map, is_some};
+ghost use Rattle.world_model.specs.Part.{part_of as seen};
+ghost use Rattle.world_model.specs.World.{empty_world};
+ghost use Rattle.world_model.specs.Found.{found, alive_count};
+ghost use Rattle.world_model.specs.Ids.{room};
+ghost use Rattle.world_model.specs.Lawful.{Suits};
+ghost use Rattle.world_model.specs.Operations.{Create};
+ghost use Rattle.world_model.specs.Reads.{types_of as types_in};
+ghost use Rattle.structural_ops.specs.Worlds.{Gives, made};
+
+use crate::tables::Tables;
+use crate::{OpFault, operations};
+use archetype_store::ArchetypeStore;
+use ent_types::{Entity, Part, Registry, SystemVersion, TypeSet};
+use entity_table::EntityTable;
+use std::alloc::Global;
+use std::marker::Model;
+
+/// All entities with their rows.
+///
+/// An operation that can't be done is skipped and changes nothing. The operations that take memory also change nothing if there is
+/// none. Parts must be of types that the registry knows, and their values must fit.
+///
+/// ```text
+/// let mut world = World::new(alloc, registry, 1, 1);
+/// let e = world.create(&[health])?;
+/// world.set(e, &more_health)?;
+/// world.destroy(e)?;
+/// assert!(!world.alive(e));
+/// ```
+#[derive(Drop)]
+pub struct World {
+    tables: Tables,
+}
+
+impl Model for World {
+    ghost use Rattle.structural_ops.specs.Worlds.{WorldState, state_of, IsConsistent};
+
+    ghost Value = { WorldState };
+
+    ghost view = { λ w. state_of w.tables };
+
+    ghost invariant = { λ w. IsConsistent w.tables };
+}
+
+impl World {
+    /// Returns the world without an entity. It takes no memory.
+    pub fn new(
+        alloc: Global,
+        registry: Registry,
+        first_entity_version: u32,
+        first_system_version: u32,
+    ) -> World
+        requires entity { 1 ≤ first_entity_version }
+        requires system { 1 ≤ first_system_version }
+        ensures { result ≡ record { world = empty_world registry first_entity_version first_system_version; numbers = []; archetypes = [] } }
+    {
+        // Its contract says that the registry is lawful.
+        let _ = registry.types();
+        let tables = Tables {
+            alloc,
+            registry,
+            store: ArchetypeStore::new(alloc),
+            table: EntityTable::new(alloc, first_entity_version),
+            version: SystemVersion(first_system_version),
+        };
+        World { tables }
+    }
+
+    /// Makes an entity with these parts, each enabled. It is skipped as `TooLarge` if no such row fits into a block, else as `Full`
+    /// if no more entities can be made.
+    pub fn create(&mut self, parts: &[Part]) -> Result<Entity, OpFault>
+        requires { Suits self.old.world.registry (Create (map seen parts.now)) }
+        ensures { Gives self.old self.new (Create (map seen parts.now)) (made result) }
+    {
+        operations::create(&mut self.tables, parts)
+    }
+
+    /// Says whether an entity is alive, dying or not.
+    pub fn alive(&self, e: Entity) -> bool
+        ensures { result ≡ is_some (found e self.now.world.blocks) }
+    {
+        self.tables.table.place_of(e).is_some()
+    }
+
+    /// Counts the alive entities.
+    pub fn alive_count(&self) -> u32
+        ensures { result ≡ alive_count self.now.world }
+    {
+        self.tables.table.alive_count()
+    }
+
+    /// Counts how many more entities can be made.
+    pub fn room(&self) -> u32
+        ensures { result ≡ room self.now.world }
+    {
+        self.tables.table.room()
+    }
+
+    /// Returns the types of an entity, or `None` if and only if it isn't alive.
+    pub fn types(&self, e: Entity) -> Option<&TypeSet>
+        ensures { option_map (λ types. types.now) result ≡ types_in self.now.world e }
+    {
+        let place = self.tables.table.place_of(e)?;
+        Some(self.tables.store.block(place.block).types())
+    }
+
+    /// Returns the registry.
+    pub fn registry(&self) -> &Registry
+        ensures { result.now ≡ self.now.world.registry }
+    {
+        &self.tables.registry
+    }
+
+    /// Returns the present version.
+    pub fn version(&self) -> SystemVersion
+        ensures { result.0 ≡ self.now.world.moment }
+    {
+        self.tables.version
+    }
+}
