@@ -23,6 +23,7 @@ fn types_of(parts: &[Part]) -> TypeSet
     }
 }
 
+/// Makes an entity with these parts.
 pub(crate) fn create(w: &mut Tables, parts: &[Part]) -> Result<Entity, OpFault>
     requires consistent { IsConsistent w.old }
     requires suits { Suits w.old.registry (Create (map seen parts.now)) }

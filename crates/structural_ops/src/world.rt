@@ -19,15 +19,13 @@ use std::marker::Model;
 
 /// All entities with their rows.
 ///
-/// An operation that can't be done is skipped and changes nothing. The operations that take memory also change nothing if there is
-/// none. Parts must be of types that the registry knows, and their values must fit.
+/// An operation that can't be done is skipped and changes nothing; nor does anything change if memory runs out. Parts must be of types that the
+/// registry knows, and their values must fit.
 ///
 /// ```text
 /// let mut world = World::new(alloc, registry, 1, 1);
 /// let e = world.create(&[health])?;
-/// world.set(e, &more_health)?;
-/// world.destroy(e)?;
-/// assert!(!world.alive(e));
+/// assert!(world.alive(e));
 /// ```
 #[derive(Drop)]
 pub struct World {
