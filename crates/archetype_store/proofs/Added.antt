@@ -1,13 +1,10 @@
 -- A store with one block more, and with one block less.
-use Rattle.std.proofs.Common.{Vec, Global, get_or, zero, suc, ◌≡◌, ◌≢◌, ℕ, ◌+◌, ◌<◌, ◌≤◌, inl, inr, Bool, false, not, ◌||◌, cond, nat_eq, List, [], ◌∷◌, ◌++◌, length, set, map, filter, Option, Some, None, refl, sym, ap, ◌∙◌, subst, arith}
+use Rattle.std.proofs.Common.{Vec, Global, get_or, zero, suc, ◌≡◌, ◌≢◌, ℕ, ◌+◌, ◌<◌, ◌≤◌, inl, inr, false, not, ◌||◌, cond, nat_eq, List, [], ◌∷◌, ◌++◌, length, set, map, filter, Option, Some, None, refl, sym, ap, ◌∙◌, subst, arith}
 use Rattle.std.specs.Prelude.{option_map, count_by, is_some, unwrap_or}
 use Rattle.std.proofs.lemmas.Bool.{cases_eq, cases_lt, lt-ltb, le-ltb, eq-eqb, ne_eqb}
 use Rattle.std.proofs.lemmas.List.{get_or-set_same, get_or-set_other, length-set, length-map, length-append, map-set, map-append, append-nil, get_or-map}
 use Rattle.std.proofs.Math.Seq.{map-set_same}
 use Rattle.std.specs.List.{cons_option, list_any}
-use Rattle.std.specs.Option.{IfSome}
-use Rattle.std.proofs.lemmas.List.{get_or_append_left}
-use Rattle.std.proofs.Math.Seq.{get_or-append_seam}
 use Rattle.std.proofs.lemmas.List.Elements.{filter_map-append}
 use Rattle.ent_types.specs.declared.value.Part.{Part}
 use Rattle.world_model.specs.Part.{part_type, part_of as seen_part}
@@ -23,8 +20,8 @@ use Rattle.archetype_store.specs.Holding.{Backs, KeepsValues, ids_of, parts_of}
 use Rattle.world_model.specs.Members.{In}
 use Rattle.archetype_store.specs.declared.store.ArchetypeStore.TheInside.{Inside}
 use Rattle.archetype_store.proofs.Holding.{in-left, in-right, parts-kept-by}
-use Rattle.archetype_store.specs.Slots.{of_slot, slot_at, put_slot, free_at, AreFree, AreOrdered, number_if, numbers_of}
-use Rattle.archetype_store.specs.Stores.{AreApart, types_at, shared_types}
+use Rattle.archetype_store.specs.Slots.{of_slot, slot_at, put_slot, free_at, AreFree, AreOrdered}
+use Rattle.archetype_store.specs.Stores.{types_at, shared_types}
 use Rattle.archetype_store.specs.Inside.{Beside, beside, kept, all_ids, members_at, members_of, IsOfArchetype, IsOrderly, IsConsistent, numbered, numbered_at, blocks_in}
 use Rattle.archetype_store.proofs.Times.{times-append}
 use Rattle.archetype_store.proofs.Orders.{some_is, none_some, put-same, put-other, ordered-put, placed-put, numbers-put, ordered-gone, placed-gone, numbers-gone, count-put, count-gone, times-put, times-gone, free-pushed, numbers-lack, below_of}
@@ -103,7 +100,6 @@ module _ (registry : Option (List TypeInfo)) (archetypes members : List (List �
     backs = backs;
     registered = orderly.registered;
     most = orderly.most;
-    distinct = orderly.distinct;
     fit = orderly.fit;
   }
 
@@ -126,7 +122,6 @@ module _ (registry : Option (List TypeInfo)) (archetypes members : List (List �
     backs = record { holds = λ id. omega (arith, backs.holds id, times-append id (ids_of x.shared) (all_ids slots), times-put (λ (y : Beside). ids_of y.shared) slots n x vacant id) };
     registered = orderly.registered;
     most = orderly.most;
-    distinct = orderly.distinct;
     fit = orderly.fit;
   }
     where
@@ -174,7 +169,6 @@ module _ (registry : Option (List TypeInfo)) (archetypes members : List (List �
     backs = backs;
     registered = orderly.registered;
     most = orderly.most;
-    distinct = orderly.distinct;
     fit = orderly.fit;
   }
     where
@@ -271,7 +265,7 @@ pub types-of-parts : (table : List Interned) (ps : List SharedPart) → map part
 types-of-parts table [] = refl
 types-of-parts table (p ∷ ps) = ap (λ ts. p.ty.0 ∷ ts) (types-of-parts table ps)
 
-types-seen : (parts : List Part) → map part_type (map seen_part parts) ≡ map (λ p. part_type (seen_part p)) parts
+pub types-seen : (parts : List Part) → map part_type (map seen_part parts) ≡ map (λ p. part_type (seen_part p)) parts
 types-seen [] = refl
 types-seen (p ∷ ps) = ap (λ ts. p.ty.0 ∷ ts) (types-seen ps)
 
@@ -326,107 +320,3 @@ length-put-most slots n x =
       | inl below ↦ omega (arith, ap (λ b. length (cond b (set slots n (Some x)) (slots ++ Some x ∷ []))) (lt-ltb n (length slots) below), length-set slots n (Some x))
       | inr past ↦ omega (arith, ap (λ b. length (cond b (set slots n (Some x)) (slots ++ Some x ∷ []))) (le-ltb n (length slots) past), length-append slots (Some x ∷ []))
     ]
-
--- ---- an archetype more
-
-none-of : (test : Beside → Bool) (slots : List (Option Beside)) (order : List (Option ℕ)) → ((n : ℕ) (x : Beside) → slot_at slots n ≡ Some x → test x ≡ false) → numbers_of test slots order ≡ []
-none-of test slots [] fails = refl
-none-of test slots (None ∷ os) fails = none-of test slots os fails
-none-of test slots (Some m ∷ os) fails = by (slot_at slots m) refl ∙ none-of test slots os fails
-  where
-    by : (o : Option Beside) → slot_at slots m ≡ o → number_if test m o ++ numbers_of test slots os ≡ numbers_of test slots os
-    by None at = refl
-    by (Some x) at = ap (λ b. (cond b (m ∷ []) []) ++ numbers_of test slots os) (fails m x at)
-
-at-left : (archetypes : List (List ℕ)) (types : List ℕ) (a : ℕ) → a < length archetypes → types_at (archetypes ++ types ∷ []) a ≡ types_at archetypes a
-at-left archetypes types a below = get_or_append_left archetypes (types ∷ []) [] a below
-
-pub orderly-archetype : (registry : Option (List TypeInfo)) (known : List TypeInfo) (archetypes members : List (List ℕ)) (slots : List (Option Beside)) (free : List ℕ) (room : ℕ) (order : List (Option ℕ)) (table : List Interned)
-    → IsOrderly registry archetypes members slots free room order table → IfSome registry (λ r. r ≡ known) → (types : List ℕ) → 0 < capacity known types
-    → ((a : ℕ) → a < length archetypes → types_at archetypes a ≡ types → ⊥) → length archetypes < MOST_NUMBERS
-    → IsOrderly (Some known) (archetypes ++ types ∷ []) (members ++ [] ∷ []) slots free room order table
-orderly-archetype registry known archetypes members slots free room order table orderly is types some new few = record {
-  are_free = orderly.are_free;
-  counted = orderly.counted;
-  free_room = orderly.free_room;
-  few = orderly.few;
-  ordered = orderly.ordered;
-  placed = orderly.placed;
-  order_counted = orderly.order_counted;
-  of_archetypes = λ n x at. of-known n x at;
-  members_there = omega (arith, orderly.members_there, length-append members ([] ∷ []), length-append archetypes (types ∷ []));
-  members_are = members-by;
-  backs = orderly.backs;
-  registered = λ none. absurd (none_some known (sym none));
-  most = omega (arith, few, longer);
-  distinct = apart;
-  fit = fits;
-}
-  where
-    longer : length (archetypes ++ types ∷ []) ≡ length archetypes + 1
-    longer = length-append archetypes (types ∷ [])
-
-    -- what was known of an archetype that is there
-    same : (a : ℕ) → a < length archetypes → unwrap_or registry [] ≡ known
-    same a below = by registry is orderly.registered
-      where
-        by : (r : Option (List TypeInfo)) → IfSome r (λ t. t ≡ known) → (r ≡ None → archetypes ≡ []) → unwrap_or r [] ≡ known
-        by None is none = absurd (omega (arith, below, ap length (none refl)))
-        by (Some t) is none = is
-
-    of-known : (n : ℕ) (x : Beside) → slot_at slots n ≡ Some x → IsOfArchetype known (archetypes ++ types ∷ []) x
-    of-known n x at =
-        let old = orderly.of_archetypes n x at in
-        let left : types_at archetypes x.archetype ≡ types_at (archetypes ++ types ∷ []) x.archetype = sym (at-left archetypes types x.archetype old.there) in
-        let reg : unwrap_or registry [] ≡ known = same x.archetype old.there in
-        record {
-          there = omega (arith, old.there, longer);
-          types = old.types ∙ left;
-          capacity = old.capacity ∙ ap (λ r. capacity r (types_at archetypes x.archetype)) reg ∙ ap (capacity known) left;
-          shapes = old.shapes ∙ ap (λ r. map (λ (t : BlockType). t.shape) (new_types r (types_at archetypes x.archetype))) reg ∙ ap (λ ts. map (λ (t : BlockType). t.shape) (new_types known ts)) left;
-          shared = old.shared ∙ ap (λ r. shared_types r (types_at archetypes x.archetype)) reg ∙ ap (shared_types known) left;
-        }
-
-    members-by : (a : ℕ) → a < length (archetypes ++ types ∷ []) → members_at (members ++ [] ∷ []) a ≡ members_of slots a order
-    members-by a below =
-        elim (cases_lt a (length archetypes)) [
-          | inl under ↦ get_or_append_left members ([] ∷ []) [] a (omega (arith, under, orderly.members_there)) ∙ orderly.members_are a under
-          | inr past ↦
-              let last : a ≡ length members = omega (arith, past, below, longer, orderly.members_there) in
-              ap (members_at (members ++ [] ∷ [])) last ∙ get_or-append_seam members [] [] []
-              ∙ sym (none-of (λ (x : Beside). nat_eq x.archetype a) slots order (λ n x at. ne_eqb x.archetype a (λ e. absurd (omega (arith, e, past, (orderly.of_archetypes n x at).there)))))
-        ]
-
-    apart : AreApart (archetypes ++ types ∷ [])
-    apart a b a_below b_below equal =
-        elim (cases_lt a (length archetypes)) [
-          | inl a_under ↦
-              elim (cases_lt b (length archetypes)) [
-                | inl b_under ↦ orderly.distinct a b a_under b_under (sym (at-left archetypes types a a_under) ∙ equal ∙ at-left archetypes types b b_under)
-                | inr b_past ↦ absurd (new a a_under (sym (at-left archetypes types a a_under) ∙ equal ∙ at-end b b_past b_below))
-              ]
-          | inr a_past ↦
-              elim (cases_lt b (length archetypes)) [
-                | inl b_under ↦ absurd (new b b_under (sym (at-left archetypes types b b_under) ∙ sym equal ∙ at-end a a_past a_below))
-                | inr b_past ↦ omega (arith, a_past, b_past, a_below, b_below, longer)
-              ]
-        ]
-      where
-        at-end : (k : ℕ) → length archetypes ≤ k → k < length (archetypes ++ types ∷ []) → types_at (archetypes ++ types ∷ []) k ≡ types
-        at-end k past below = ap (types_at (archetypes ++ types ∷ [])) (omega (arith, past, below, longer)) ∙ get_or-append_seam archetypes types [] []
-
-    fits : (a : ℕ) → a < length (archetypes ++ types ∷ []) → 0 < capacity known (types_at (archetypes ++ types ∷ []) a)
-    fits a below =
-        elim (cases_lt a (length archetypes)) [
-          | inl under ↦
-              subst (λ ts. 0 < capacity known ts) (sym (at-left archetypes types a under))
-              (subst (λ r. 0 < capacity r (types_at archetypes a)) (same a under) (orderly.fit a under))
-          | inr past ↦
-              let last : a ≡ length archetypes = omega (arith, past, below, longer) in
-              subst (λ ts. 0 < capacity known ts) (sym (ap (types_at (archetypes ++ types ∷ [])) last ∙ get_or-append_seam archetypes types [] [])) some
-        ]
-
--- what is there is known
-pub registry-there : (registry : Option (List TypeInfo)) (known : List TypeInfo) (archetypes : List (List ℕ)) (a : ℕ) → IfSome registry (λ r. r ≡ known) → (registry ≡ None → archetypes ≡ []) → a < length archetypes → registry ≡ Some known
-registry-there None known archetypes a is none below = absurd (omega (arith, below, ap length (none refl)))
-registry-there (Some r) known archetypes a is none below = ap Some is

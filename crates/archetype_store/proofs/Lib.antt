@@ -5,6 +5,7 @@ pub mod Views
 pub mod Writes
 pub mod Shapes
 pub mod Added
+pub mod Archetypes
 pub mod Found
 pub mod Ranks
 pub mod Removed
@@ -16,3 +17,6 @@ pub mod Lodged
 pub mod Lodging
 pub mod Search
 pub mod Typed
+pub mod Closed
+pub mod Attached
+pub mod Moving

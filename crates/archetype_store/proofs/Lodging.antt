@@ -32,7 +32,7 @@ few-homes s consistent h =
       | inl below ↦
           omega (
             arith,
-            consistent.1.1.full h below,
+            consistent.1.1.0.full h below,
             count_by-le-length (is_crowded h) (lodgers s.slots.items),
             length-map s.slots.items (option_map lodger),
             length-map s.slots.items (option_map beside),
@@ -67,10 +67,10 @@ module _ (s : Inside) (consistent : IsConsistent s) (n : ℕ) (h : Held) (there 
 
   pub home-there : h.home < length s.homes.items
   home-there =
-      omega (arith, home-below (homes_of s.homes.items) (get same_home s.found) (lodgers s.slots.items) s.order.items consistent.1.1 n (lodger h) there-lodged, length-map s.homes.items home_state)
+      omega (arith, home-below (homes_of s.homes.items) (get same_home s.found) (lodgers s.slots.items) s.order.items consistent.1.1.0 n (lodger h) there-lodged, length-map s.homes.items home_state)
 
   home-seen : h.home < length (homes_of s.homes.items)
-  home-seen = home-below (homes_of s.homes.items) (get same_home s.found) (lodgers s.slots.items) s.order.items consistent.1.1 n (lodger h) there-lodged
+  home-seen = home-below (homes_of s.homes.items) (get same_home s.found) (lodgers s.slots.items) s.order.items consistent.1.1.0 n (lodger h) there-lodged
 
   roomy-is : (g : ℕ) → is_roomy_at (lodgers s.slots.items) g (slot_at s.order.items h.rank) ≡ is_roomy g (Some (lodger h))
   roomy-is g = ap (is_roomy_at (lodgers s.slots.items) g) placed ∙ ap (is_roomy g) there-lodged
@@ -93,22 +93,22 @@ module _ (s : Inside) (consistent : IsConsistent s) (n : ℕ) (h : Held) (there 
     home-is = get_or-map home_state s.homes.items h.home v no_home home-there ∙ ap home_state (sym at)
 
     pub home-rises : IsRising v.ranks.items
-    home-rises = subst (λ (x : HomeState). IsRising x.ranks) home-is (consistent.1.1.rising h.home home-seen)
+    home-rises = subst (λ (x : HomeState). IsRising x.ranks) home-is (consistent.1.1.0.rising h.home home-seen)
 
     pub home-has : has_rank h.rank v.ranks.items ≡ nat_lt (length h.block.rows) h.block.capacity
     home-has =
-        sym (ap (λ (x : HomeState). has_rank h.rank x.ranks) home-is) ∙ consistent.1.1.ranks h.home home-seen h.rank ∙ roomy-is h.home
+        sym (ap (λ (x : HomeState). has_rank h.rank x.ranks) home-is) ∙ consistent.1.1.0.ranks h.home home-seen h.rank ∙ roomy-is h.home
         ∙ ap (λ b. b && nat_lt (length h.block.rows) h.block.capacity) (eq-eqb h.home h.home refl)
 
     pub home-fits : length v.ranks.items + v.full ≤ vec_capacity v.ranks
-    home-fits = subst (λ (x : HomeState). length x.ranks + x.full ≤ x.room) home-is (consistent.1.1.room h.home home-seen)
+    home-fits = subst (λ (x : HomeState). length x.ranks + x.full ≤ x.room) home-is (consistent.1.1.0.room h.home home-seen)
 
     pub home-full : nat_lt (length h.block.rows) h.block.capacity ≡ false → 0 < v.full
     home-full full =
         omega (
           arith,
           ap (λ (x : HomeState). x.full) home-is,
-          consistent.1.1.full h.home home-seen,
+          consistent.1.1.0.full h.home home-seen,
           sum_by-set (λ (o : Option Lodger). cond (is_crowded h.home o) 1 0) (lodgers s.slots.items) n None None below-lodged,
           ap (λ (o : Option Lodger). one (is_crowded h.home o)) there-lodged,
           crowded-here,
@@ -140,12 +140,12 @@ module _ (s : Inside) (consistent : IsConsistent s) (n : ℕ) (h : Held) (there 
       homes-noted =
           subst (λ hs. AreHomes hs (get same_home s.found) (lodgers slots) s.order.items) (sym (map-set home_state s.homes.items h.home w))
           (subst (λ ls. AreHomes (set (homes_of s.homes.items) h.home (home_state w)) (get same_home s.found) ls s.order.items) (sym lodged)
-          (changed (homes_of s.homes.items) (get same_home s.found) (lodgers s.slots.items) s.order.items consistent.1.1 (set (lodgers s.slots.items) n (Some (lodger after))) s.order.items n h.home h.rank (home_state w)
+          (changed (homes_of s.homes.items) (get same_home s.found) (lodgers s.slots.items) s.order.items consistent.1.1.0 (set (lodgers s.slots.items) n (Some (lodger after))) s.order.items n h.home h.rank (home_state w)
           (Some (lodger h)) (Some (lodger after)) home-seen there-after (λ m differs. get_or-set_other (lodgers s.slots.items) n m (Some (lodger after)) None differs) roomy-is
           (λ g. ap (is_roomy_at (set (lodgers s.slots.items) n (Some (lodger after))) g) placed ∙ ap (is_roomy g) there-after) (λ r differs. refl) elsewhere same-home-as
           (λ y same. (
             ap (λ (x : Lodger). x.home) (sym (some_is (lodger after) y same)),
-            subst (λ (x : Lodger). get same_home s.found (key_of x) ≡ Some h.home) (some_is (lodger after) y same) (consistent.1.1.keys n (lodger h) there-lodged),
+            subst (λ (x : Lodger). get same_home s.found (key_of x) ≡ Some h.home) (some_is (lodger after) y same) (consistent.1.1.0.keys n (lodger h) there-lodged),
           ))
           (notes.here ∙ is_is ∙ sym (ap (λ b. b && nat_lt (length block.rows) block.capacity) (eq-eqb h.home h.home refl)))
           (λ r differs. notes.stay r differs ∙ sym (ap (λ (x : HomeState). has_rank r x.ranks) home-is)) notes.rising
@@ -178,7 +178,7 @@ module _ (s : Inside) (consistent : IsConsistent s) (n : ℕ) (h : Held) (there 
       homes-gone =
           subst (λ hs. AreHomes hs (get same_home s.found) (lodgers (set s.slots.items n None)) (set s.order.items h.rank None)) (sym (map-set home_state s.homes.items h.home w))
           (subst (λ ls. AreHomes (set (homes_of s.homes.items) h.home (home_state w)) (get same_home s.found) ls (set s.order.items h.rank None)) (sym gone-lodged)
-          (changed (homes_of s.homes.items) (get same_home s.found) (lodgers s.slots.items) s.order.items consistent.1.1 (set (lodgers s.slots.items) n None) (set s.order.items h.rank None) n h.home h.rank (home_state w)
+          (changed (homes_of s.homes.items) (get same_home s.found) (lodgers s.slots.items) s.order.items consistent.1.1.0 (set (lodgers s.slots.items) n None) (set s.order.items h.rank None) n h.home h.rank (home_state w)
           (Some (lodger h)) None home-seen gone-there (λ m differs. get_or-set_other (lodgers s.slots.items) n m None None differs) roomy-is
           (λ g. ap (is_roomy_at (set (lodgers s.slots.items) n None) g) gone-placed) (λ r differs. get_or-set_other s.order.items h.rank r None None differs) elsewhere same-home-as
           (λ y same. absurd (none_some y same))

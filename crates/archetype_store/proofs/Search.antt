@@ -164,7 +164,7 @@ module _ (s : Inside) (consistent : IsConsistent s) (one : AreOneEach s.shared) 
         ap₂ (λ (k : ℕ) (is : List ℕ). let made : HomeKey = record { archetype = k; ids = is } in made) c.0 (stand-one s.shared one parts (ids_of h.shared.items) ids c.1.1 stand)
 
     home-found : (m : ℕ) (h : Held) → Fits m h → find key ≡ Some h.home
-    home-found m h fits = ap find (sym (key-is m h fits)) ∙ consistent.1.1.keys m (lodger h) (at-lodged m h fits.0)
+    home-found m h fits = ap find (sym (key-is m h fits)) ∙ consistent.1.1.0.keys m (lodger h) (at-lodged m h fits.0)
 
     placed : (m : ℕ) (h : Held) → slot_at s.slots.items m ≡ Some h → slot_at s.order.items h.rank ≡ Some m
     placed m h at = consistent.0.placed m (beside h) (at-kept m h at)
@@ -173,7 +173,7 @@ module _ (s : Inside) (consistent : IsConsistent s) (one : AreOneEach s.shared) 
     rank-there : (g : ℕ) → find key ≡ Some g → (m : ℕ) (h : Held) → Fits m h → has_rank h.rank (home_at (homes_of s.homes.items) g).ranks ≡ true
     rank-there g found m h fits =
         let home : h.home ≡ g = some_is h.home g (sym (home-found m h fits) ∙ found) in
-        consistent.1.1.ranks g (consistent.1.1.known key g found) h.rank
+        consistent.1.1.0.ranks g (consistent.1.1.0.known key g found) h.rank
         ∙ ap (is_roomy_at (lodgers s.slots.items) g) (placed m h fits.0) ∙ ap (is_roomy g) (at-lodged m h fits.0)
         ∙ ap (λ b. b && nat_lt (length h.block.rows) h.block.capacity) (eq-eqb h.home g home) ∙ (candidate m h fits).1.0
 
@@ -187,7 +187,7 @@ module _ (s : Inside) (consistent : IsConsistent s) (one : AreOneEach s.shared) 
         by (Some h) at roomy =
             let both = both-true (nat_eq h.home g) (nat_lt (length h.block.rows) h.block.capacity) (sym (ap (λ o. is_roomy g (option_map lodger o)) at) ∙ roomy) in
             let home : h.home ≡ g = eqb-true h.home g both.0 in
-            let same : key_of (lodger h) ≡ key = consistent.1.1.once (key_of (lodger h)) key g (consistent.1.1.keys n (lodger h) (at-lodged n h at) ∙ ap Some home) found in
+            let same : key_of (lodger h) ≡ key = consistent.1.1.0.once (key_of (lodger h)) key g (consistent.1.1.0.keys n (lodger h) (at-lodged n h at) ∙ ap Some home) found in
             let stands : StandAll s.shared parts (ids_of h.shared.items) = subst (StandAll s.shared parts) (sym (ap (λ (k : HomeKey). k.ids) same)) stand in
             let of : h.archetype ≡ a = ap (λ (k : HomeKey). k.archetype) same in
             let are : parts_of s.shared h.shared.items ≡ parts = parts-by s.shared parts h.shared.items stands (typed-at n h at) in
@@ -206,16 +206,16 @@ module _ (s : Inside) (consistent : IsConsistent s) (one : AreOneEach s.shared) 
         in-home : (g : ℕ) → find key ≡ Some g → (rs : List ℕ) → (home_at (homes_of s.homes.items) g).ranks ≡ rs → Answers (number_at_first s.order.items rs)
         in-home g found [] is = full-if (λ m h fits. false≢true (sym (ap (has_rank h.rank) is) ∙ rank-there g found m h fits))
         in-home g found (q ∷ qs) is =
-            let within = consistent.1.1.known key g found in
+            let within = consistent.1.1.0.known key g found in
             let there : has_rank q (q ∷ qs) ≡ true = ap (λ b. b || has_rank q qs) (eq-eqb q q refl) in
-            let f = roomy-fits g found (slot_at s.order.items q) (sym (consistent.1.1.ranks g within q) ∙ ap (has_rank q) is ∙ there) in
+            let f = roomy-fits g found (slot_at s.order.items q) (sym (consistent.1.1.0.ranks g within q) ∙ ap (has_rank q) is ∙ there) in
             let n : ℕ = f.0 in
             let h : Held = f.1.0 in
             let rank : h.rank ≡ q =
             some_is h.rank q (ap (option_map (λ (x : Beside). x.rank)) (sym (at-kept n h f.1.1.1.0)) ∙ consistent.0.ordered q n f.1.1.0) in
             subst Answers (sym f.1.1.0)
             (first-walk n h f.1.1.1
-            (λ m g2 fits. omega (arith, rank, least q qs g2.rank (subst IsRising is (consistent.1.1.rising g within)) (sym (ap (has_rank g2.rank) is) ∙ rank-there g found m g2 fits)))
+            (λ m g2 fits. omega (arith, rank, least q qs g2.rank (subst IsRising is (consistent.1.1.0.rising g within)) (sym (ap (has_rank g2.rank) is) ∙ rank-there g found m g2 fits)))
             0 q s.order.items (told-all s.slots.items s.order.items consistent.0.ordered) f.1.1.0)
 
         by : (o : Option ℕ) → find key ≡ o → Answers (first_number (homes_of s.homes.items) s.order.items o)

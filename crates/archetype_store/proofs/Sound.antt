@@ -1,6 +1,8 @@
 -- What always holds of a store, as contracts see it.
-use Rattle.std.proofs.Common.{◌≡◌, ℕ, [], length, Some, sym, ap, ◌∙◌, subst, arith}
+use Rattle.std.proofs.Common.{◌≡◌, ℕ, nat_eq, [], length, Some, sym, ap, ◌∙◌, subst, arith}
 use Rattle.std.specs.Prelude.{option_map, count_by, is_some, unwrap_or}
+use Rattle.std.specs.HashMap.{get}
+use Rattle.std.specs.Cmp.Lexicographic.{pointwise}
 use Rattle.world_model.specs.World.{capacity}
 use Rattle.chunk_block.specs.Blocks.{new_types}
 use Rattle.archetype_store.specs.declared.slots.Held.{Held}
@@ -10,6 +12,7 @@ use Rattle.archetype_store.specs.Stores.{IsOfStore, IsStore, shared_types, shape
 use Rattle.archetype_store.specs.Inside.{beside, numbered, blocks_in, view_of, IsOfArchetype, IsConsistent}
 use Rattle.archetype_store.proofs.Views.{slot-kept}
 use Rattle.archetype_store.proofs.Added.{blocks-count, order-there, types-of-parts}
+use Rattle.archetype_store.proofs.Archetypes.{apart-by}
 use Rattle.archetype_store.proofs.Ranks.{block-there, blocks-distinct, ranks-count, ranks-rise, told-all}
 
 module _ (s : Inside) (consistent : IsConsistent s) where
@@ -33,7 +36,7 @@ module _ (s : Inside) (consistent : IsConsistent s) where
     blocks = λ b is.
         let found = block-there s.slots.items s.shared s.order.items b is in
         subst (IsOfStore (view_of s)) (sym found.1.1.1) (of-store found.0 found.1.0 found.1.1.0);
-    apart = consistent.0.distinct;
+    apart = apart-by s.archetypes.items (get (pointwise nat_eq) s.by_types) consistent.1.1.1;
     fit = consistent.0.fit;
     ranked = ranks-count 0 s.order.items ∙ sym seen-length;
     rising = ranks-rise 0 s.order.items;

@@ -4,6 +4,7 @@ use Rattle.std.specs.Bool.{MatchBool}
 use Rattle.std.specs.Option.{IsSome}
 use Rattle.std.specs.Vec.{vec_capacity}
 use Rattle.std.specs.HashMap.{get}
+use Rattle.std.specs.Cmp.Lexicographic.{pointwise}
 use Rattle.std.specs.Prelude.{option_map}
 use Rattle.std.proofs.lemmas.List.{get_or_default}
 use Rattle.std.proofs.Math.Seq.{map-set_same}
@@ -14,7 +15,7 @@ use Rattle.archetype_store.specs.HomeKeys.{same_home}
 use Rattle.archetype_store.specs.Homes.{AreHomes, homes_of, lodger, lodgers}
 use Rattle.archetype_store.specs.Slots.{slot_at}
 use Rattle.archetype_store.specs.Stores.{StoreState, Numbered, OfBlock, OfNumber, with_block, with_block_in}
-use Rattle.archetype_store.specs.Inside.{Beside, beside, kept, view_of, blocks_in, AreAllTyped, IsOrderly, IsConsistent}
+use Rattle.archetype_store.specs.Inside.{AreFound, Beside, beside, kept, view_of, blocks_in, AreAllTyped, IsOrderly, IsConsistent}
 use Rattle.archetype_store.proofs.Orders.{below_of, none_some, some_is}
 use Rattle.archetype_store.proofs.Views.{at_number, for_number, written, kept-written}
 
@@ -80,7 +81,8 @@ module _ (s : Inside) (store : StoreState) (seen : view_of s ≡ store) (n : ℕ
   pub consistent-written : (h : Held) (f : BlockState → BlockState) (block : BlockState) → slot_at s.slots.items n ≡ Some h → block ≡ f h.block
       → beside (record h { block = f h.block }) ≡ beside h → length (f h.block).rows ≡ length h.block.rows → IsConsistent s
       → IsOrderly s.registry s.archetypes.items (map (λ v. v.items) s.members.items) (kept (set s.slots.items n (Some (record h { block = block })))) s.free.items (vec_capacity s.free) s.order.items s.shared
-      × (AreAllTyped s.shared (kept (set s.slots.items n (Some (record h { block = block })))) × AreHomes (homes_of s.homes.items) (get same_home s.found) (lodgers (set s.slots.items n (Some (record h { block = block })))) s.order.items)
+      × (AreAllTyped s.shared (kept (set s.slots.items n (Some (record h { block = block }))))
+      × (AreHomes (homes_of s.homes.items) (get same_home s.found) (lodgers (set s.slots.items n (Some (record h { block = block })))) s.order.items × AreFound s.archetypes.items (get (pointwise nat_eq) s.by_types)))
   consistent-written h f block at is same rows consistent =
       let slots : kept (set s.slots.items n (Some (record h { block = block }))) ≡ kept s.slots.items = ap (λ b. kept (set s.slots.items n (Some (record h { block = b })))) is ∙ kept-written s.slots.items s.shared n h f at same in
       let capacity : (f h.block).capacity ≡ h.block.capacity = ap (λ (x : Beside). x.capacity) same in
@@ -92,7 +94,7 @@ module _ (s : Inside) (store : StoreState) (seen : view_of s ≡ store) (n : ℕ
         orderly-by slots consistent.0,
         (
           subst (AreAllTyped s.shared) (sym slots) consistent.1.0,
-          subst (λ ls. AreHomes (homes_of s.homes.items) (get same_home s.found) ls s.order.items) (sym lodged) consistent.1.1,
+          (subst (λ ls. AreHomes (homes_of s.homes.items) (get same_home s.found) ls s.order.items) (sym lodged) consistent.1.1.0, consistent.1.1.1),
         ),
       )
 

@@ -16,8 +16,9 @@ use Rattle.archetype_store.specs.Holding.{AreTyped, parts_of, ids_of, Backs}
 use Rattle.archetype_store.specs.HomeKeys.{same_home}
 use Rattle.archetype_store.specs.Homes.{AreHomes, homes_of, lodgers}
 use Rattle.std.specs.HashMap.{get}
+use Rattle.std.specs.Cmp.Lexicographic.{pointwise}
 use Rattle.archetype_store.specs.Slots.{slot_at, AreFree, AreOrdered, ArePlaced, numbers_of, of_slots}
-use Rattle.archetype_store.specs.Stores.{Numbered, StoreState, AreApart, types_at, shared_types}
+use Rattle.archetype_store.specs.Stores.{Numbered, StoreState, types_at, shared_types}
 
 -- ---- what contracts see
 
@@ -107,10 +108,13 @@ pub record IsOrderly (registry : Option (List TypeInfo)) (archetypes members : L
   pub backs : Backs table (all_ids slots)
   pub registered : registry ≡ None → archetypes ≡ []
   pub most : length archetypes ≤ MOST_NUMBERS
-  -- no two archetypes have the same types
-  pub distinct : AreApart archetypes
   -- a block of each archetype has room for a row
   pub fit : (a : ℕ) → a < length archetypes → 0 < capacity (unwrap_or registry []) (types_at archetypes a)
+
+-- the types of an archetype find its id, and other types find none
+pub record AreFound (archetypes : List (List ℕ)) (found : List ℕ → Option ℕ) : Type 0 where
+  pub known : (types : List ℕ) (a : ℕ) → found types ≡ Some a → (a < length archetypes) × (types_at archetypes a ≡ types)
+  pub all : (a : ℕ) → a < length archetypes → found (types_at archetypes a) ≡ Some a
 
 -- the ids of each block have the types of their parts
 abbrev pub AreAllTyped : List Interned → List (Option Beside) → Type 0
@@ -119,7 +123,8 @@ AreAllTyped table slots = (n : ℕ) (x : Beside) → slot_at slots n ≡ Some x 
 abbrev pub IsConsistent : Inside → Type 0
 IsConsistent s =
     IsOrderly s.registry s.archetypes.items (map (λ v. v.items) s.members.items) (kept s.slots.items) s.free.items (vec_capacity s.free) s.order.items s.shared
-    × (AreAllTyped s.shared (kept s.slots.items) × AreHomes (homes_of s.homes.items) (get same_home s.found) (lodgers s.slots.items) s.order.items)
+    × (AreAllTyped s.shared (kept s.slots.items)
+    × (AreHomes (homes_of s.homes.items) (get same_home s.found) (lodgers s.slots.items) s.order.items × AreFound s.archetypes.items (get (pointwise nat_eq) s.by_types)))
 
 -- each of the numbers has a block
 abbrev pub AreUsed : List (Option Held) → List ℕ → Type 0

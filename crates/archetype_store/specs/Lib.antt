@@ -4,4 +4,6 @@ pub mod Slots
 pub mod HomeKeys
 pub mod Homes
 pub mod Stores
+pub mod Attached
 pub mod Inside
+pub mod Gaps

@@ -4,7 +4,9 @@
 //! emptied block goes while the others keep their order, are entsim's own rules.
 #![tactic(auto)]
 
+mod attach;
 mod blocks;
+mod gaps;
 mod homes;
 mod numbers;
 mod shared_parts;

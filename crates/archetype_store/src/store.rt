@@ -1,6 +1,7 @@
 //! The store.
 ghost use Rattle.std.specs.Prelude.{◌≡◌, ℕ, ⊤, ◌<◌, ◌≤◌, ◌++◌, ◌∷◌, [], length, map, not, slice_get, slice_set, fold, option_map, IfOk, OnOk, OnErr, MatchOption, MatchResult, None, Some, OnSome, IfSome, IsSome, IfNone, IfErr, true, false, nat_eq, vec_capacity};
 ghost use Rattle.std.specs.Cmp.Lexicographic.{pointwise};
+ghost use Rattle.std.specs.HashMap.{get, IsUnchanged, Updates};
 ghost use Rattle.chunk_block.specs.declared.block.BlockFault.TheVariants as fault;
 ghost use Rattle.std.specs.List.{flat_map, list_any};
 ghost use Rattle.ent_types.specs.declared.limits.TheConstants.{MOST_BLOCK_ROWS};
@@ -14,6 +15,7 @@ ghost use Rattle.archetype_store.specs.declared.numbers.TheConstants.{MOST_NUMBE
 ghost use Rattle.archetype_store.specs.Stores.{StoreState, OfNumber, OfBlock, with_block_in, Adds, Finds, HasBlocks, IsStore, LacksTypes, Opens, IsFirstWithRoom, is_full, left, moved_into, numbered_blocks, numbers_in, rank_of, types_at, shared_types, registry_of, without_block, without_row};
 
 use crate::blocks::Blocks;
+use crate::gaps::{drop_gaps, rank_blocks, rerank_homes};
 use crate::homes::{Home, HomeKey, drop_rank, first_in, note_room};
 use crate::numbers::{MOST_NUMBERS, put, take_room};
 use crate::shared_parts::{find_ids, release_all, values_in};
@@ -48,15 +50,16 @@ impl Model for ArchetypeId {
 /// Blocks of many archetypes, in block order.
 #[derive(Drop)]
 pub struct ArchetypeStore {
-    registry: Option<Registry>,
+    pub(crate) registry: Option<Registry>,
     archetypes: Vec<TypeSet>,
     members: Vec<Vec<u32>>,
-    slots: Vec<Option<Held>>,
+    pub(crate) slots: Vec<Option<Held>>,
     free: Vec<u32>,
-    order: Vec<Option<u32>>,
-    shared: SharedTable,
-    homes: Vec<Home>,
+    pub(crate) order: Vec<Option<u32>>,
+    pub(crate) shared: SharedTable,
+    pub(crate) homes: Vec<Home>,
     found: HashMap<HomeKey, usize>,
+    by_types: HashMap<TypeSet, u32>,
 }
 
 impl Model for ArchetypeStore {
@@ -86,6 +89,7 @@ impl ArchetypeStore {
             shared: SharedTable::new(alloc),
             homes: Vec::new(alloc),
             found: HashMap::new(alloc),
+            by_types: HashMap::new(alloc),
         }
     }
 
@@ -327,7 +331,7 @@ impl ArchetypeStore {
     }
 
     /// Adds a block without rows at the end.
-    fn add_block(&mut self, a: ArchetypeId, shared: &[Part]) -> Result<u32, Memory>
+    pub(crate) fn add_block(&mut self, a: ArchetypeId, shared: &[Part]) -> Result<u32, Memory>
         requires there { a < length self.old.archetypes }
         requires parts { map (λ p. part_type (seen_part p)) shared.now ≡ shared_types (registry_of self.old) (types_at self.old.archetypes a) }
         requires few { length self.old.blocks < most_numbers }
@@ -375,6 +379,7 @@ impl ArchetypeStore {
         self.is_sound();
         if self.block(number).len() == 0 {
             self.remove_block(number);
+            self.close_gaps();
         }
         moved
     }
@@ -396,7 +401,7 @@ impl ArchetypeStore {
     }
 
     /// Removes a block that has room for a row, and releases its shared values. Its number is free again.
-    fn remove_block(&mut self, number: u32)
+    pub(crate) fn remove_block(&mut self, number: u32)
         requires { OfBlock number (λ b. length b.rows < b.capacity) self.old.blocks }
         ensures { HasBlocks self.old self.new (without_block number self.old.blocks) }
     {
@@ -408,6 +413,20 @@ impl ArchetypeStore {
         self.order[rank] = None;
         self.free.push_reserved(number);
         release_all(&mut self.shared, &held.shared);
+    }
+
+    /// Closes the gaps in block order if more than half of its places are empty. So its length grows with the blocks that are
+    /// there, and a block that goes costs a constant time in the mean. Blocks get lower ranks. It takes no memory.
+    fn close_gaps(&mut self)
+        ensures { HasBlocks self.old self.new self.old.blocks }
+    {
+        let there = self.slots.len() - self.free.len();
+        if self.order.len() / 2 <= there {
+            return;
+        }
+        rank_blocks(&mut self.slots, &self.order);
+        rerank_homes(&mut self.homes, &self.slots, &self.order);
+        drop_gaps(&mut self.order);
     }
 
     /// Returns the archetype with some types, and makes it if there is none. The registry is that of each earlier call. `TooLarge`
@@ -422,8 +441,8 @@ impl ArchetypeStore {
         ensures fault { IfErr result (λ f. f ≡ fault.TooLarge → capacity registry.now types.now ≡ 0) }
         ensures err { OnErr result (self.new ≡ self.old) }
     {
-        match find_types(&self.archetypes, types) {
-            Some(a) => Ok(ArchetypeId(a as u32)),
+        match self.by_types.get(types).copied() {
+            Some(a) => Ok(ArchetypeId(a)),
             None => self.add_archetype(registry, types),
         }
     }
@@ -446,20 +465,20 @@ impl ArchetypeStore {
             return Err(BlockFault::Memory);
         }
         has_room(alloc, registry, types)?;
+        let a = a as u32;
         reserve_both(&mut self.archetypes, &mut self.members)?;
-        remember(alloc, &mut self.registry, registry)?;
+        remember(
+            alloc,
+            &mut self.registry,
+            &mut self.by_types,
+            registry,
+            types,
+            a,
+        )?;
         self.archetypes.push_reserved(*types);
         self.members.push_reserved(Vec::new(alloc));
-        Ok(ArchetypeId(a as u32))
+        Ok(ArchetypeId(a))
     }
-}
-
-/// Returns the place of some types.
-fn find_types(archetypes: &[TypeSet], types: &TypeSet) -> Option<usize>
-    ensures some { IfSome result (λ a. (a < length archetypes.now) × (types_at archetypes.now a ≡ types.now)) }
-    ensures none { IfNone result (LacksTypes types.now archetypes.now) }
-{
-    archetypes.iter().position(|ts| ts == types)
 }
 
 /// Tests whether a row of some types fits into a block.
@@ -485,16 +504,30 @@ fn reserve_both(archetypes: &mut Vec<TypeSet>, members: &mut Vec<Vec<u32>>) -> R
     Ok(())
 }
 
-/// Keeps a copy of the registry, if none is there.
-fn remember(alloc: Global, kept: &mut Option<Registry>, registry: &Registry) -> Result<(), Memory>
+/// Notes the id of some types, and keeps a copy of the registry if none is there.
+fn remember(
+    alloc: Global,
+    kept: &mut Option<Registry>,
+    by_types: &mut HashMap<TypeSet, u32>,
+    registry: &Registry,
+    types: &TypeSet,
+    a: u32,
+) -> Result<(), Memory>
     requires { IfSome kept.old (λ r. r ≡ registry.now) }
     ensures ok { OnOk result (kept.new ≡ Some registry.now) }
     ensures err { OnErr result (kept.new ≡ kept.old) }
+    ensures noted { OnOk result (Updates (pointwise nat_eq) by_types.old by_types.new types.now (Some a)) }
+    ensures unnoted { OnErr result (IsUnchanged by_types.old by_types.new) }
 {
     match kept {
-        Some(_) => Ok(()),
+        Some(_) => {
+            by_types.insert(*types, a)?;
+            Ok(())
+        }
         None => {
-            *kept = Some(registry.copy(alloc)?);
+            let copy = registry.copy(alloc)?;
+            by_types.insert(*types, a)?;
+            *kept = Some(copy);
             Ok(())
         }
     }

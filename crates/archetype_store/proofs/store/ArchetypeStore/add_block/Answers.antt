@@ -34,8 +34,11 @@ invariant_of-self c =
           s.shared c.self.invariant.0.backs,
       (
         subst (λ sl. AreAllTyped s.shared (kept sl)) (sym c.take_room.ensures.slots_stay) c.self.invariant.1.0,
-        subst (λ sl. AreHomes (homes_of s.homes.items) (get same_home s.found) (lodgers sl) t.order.items) (sym c.take_room.ensures.slots_stay)
-            (subst (AreHomes (homes_of s.homes.items) (get same_home s.found) (lodgers s.slots.items)) (sym c.take_room.ensures.order_stays) c.self.invariant.1.1),
+        (
+          subst (λ sl. AreHomes (homes_of s.homes.items) (get same_home s.found) (lodgers sl) t.order.items) (sym c.take_room.ensures.slots_stay)
+              (subst (AreHomes (homes_of s.homes.items) (get same_home s.found) (lodgers s.slots.items)) (sym c.take_room.ensures.order_stays) c.self.invariant.1.1.0),
+          c.self.invariant.1.1.1,
+        ),
       ),
     )
 
@@ -49,9 +52,12 @@ invariant_of-self-in_err-held c =
       (
         subst (λ sl. AreAllTyped c.new_held.new.table (kept sl)) (sym c.take_room.ensures.slots_stay)
             (typed-all s.shared c.new_held.new.table (kept s.slots.items) (c.in_err-held.ensures.err (all_ids (kept s.slots.items)) c.self.invariant.0.backs).keeps c.self.invariant.1.0),
-        subst (λ sl. AreHomes (homes_of c.new_held.new.homes.items) (get same_home c.new_held.new.found) (lodgers sl) t.order.items) (sym c.take_room.ensures.slots_stay)
-            (subst (AreHomes (homes_of c.new_held.new.homes.items) (get same_home c.new_held.new.found) (lodgers s.slots.items)) (sym c.take_room.ensures.order_stays)
-            (c.in_err-held.ensures.homes (lodgers s.slots.items) s.order.items c.self.invariant.1.1)),
+        (
+          subst (λ sl. AreHomes (homes_of c.new_held.new.homes.items) (get same_home c.new_held.new.found) (lodgers sl) t.order.items) (sym c.take_room.ensures.slots_stay)
+              (subst (AreHomes (homes_of c.new_held.new.homes.items) (get same_home c.new_held.new.found) (lodgers s.slots.items)) (sym c.take_room.ensures.order_stays)
+              (c.in_err-held.ensures.homes (lodgers s.slots.items) s.order.items c.self.invariant.1.1.0)),
+          c.self.invariant.1.1.1,
+        ),
       ),
     )
 
@@ -147,7 +153,7 @@ invariant_of-self-2 c =
     let for : IsHomeFor (homes_of c.new_held.new.homes.items) (get same_home c.new_held.new.found) (key_of (lodger h)) h.home =
     subst (λ (k : ℕ). IsHomeFor (homes_of c.new_held.new.homes.items) (get same_home c.new_held.new.found) (record { archetype = k; ids = ids_of h.shared.items }) h.home) (sym c.in_ok-held.ensures.archetype) c.in_ok-held.ensures.home in
     let lodged =
-    homes-put s c.self.invariant n h vacant within last c.new_held.new.homes.items (get same_home c.new_held.new.found) (c.in_ok-held.ensures.homes (lodgers s.slots.items) s.order.items c.self.invariant.1.1) for roomy
+    homes-put s c.self.invariant n h vacant within last c.new_held.new.homes.items (get same_home c.new_held.new.found) (c.in_ok-held.ensures.homes (lodgers s.slots.items) s.order.items c.self.invariant.1.1.0) for roomy
     v c.index_mut-3.ensures.value w refl (c.push_reserved-3.ensures.items ∙ ap (λ k. v.ranks.items ++ k ∷ []) (sym c.in_ok-held.ensures.rank)) c.push_reserved-3.ensures.capacity in
     let lists_are =
     subst (λ m. IsOrderly s.registry s.archetypes.items m (kept c.put-number.new.slots.items) c.put-number.new.free.items (vec_capacity c.put-number.new.free) c.push_reserved.new.self.items c.new_held.new.table)
@@ -160,8 +166,11 @@ invariant_of-self-2 c =
       (
         subst (AreAllTyped c.new_held.new.table) (sym new)
             (typed-put c.new_held.new.table old n (beside h) (omega (arith, within, length-kept s.slots.items)) c.in_ok-held.ensures.typed (typed-all s.shared c.new_held.new.table old keeps c.self.invariant.1.0)),
-        subst (λ sl. AreHomes (homes_of (set c.new_held.new.homes.items h.home w)) (get same_home c.new_held.new.found) (lodgers sl) c.push_reserved.new.self.items) (sym slots)
-            (subst (AreHomes (homes_of (set c.new_held.new.homes.items h.home w)) (get same_home c.new_held.new.found) (lodgers (put_slot s.slots.items n h))) (sym order) lodged),
+        (
+          subst (λ sl. AreHomes (homes_of (set c.new_held.new.homes.items h.home w)) (get same_home c.new_held.new.found) (lodgers sl) c.push_reserved.new.self.items) (sym slots)
+              (subst (AreHomes (homes_of (set c.new_held.new.homes.items h.home w)) (get same_home c.new_held.new.found) (lodgers (put_slot s.slots.items n h))) (sym order) lodged),
+          c.self.invariant.1.1.1,
+        ),
       ),
     )
 

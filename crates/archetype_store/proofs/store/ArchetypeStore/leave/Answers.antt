@@ -37,10 +37,10 @@ returns-then-len-eq0-clause-blocks c =
     let empty : OfBlock c.args.number (λ b. length b.rows ≡ 0) mid.blocks =
     of-each c.args.number (λ b. c.block.result.now ≡ b) (λ b. length b.rows ≡ 0) mid.blocks c.block.ensures (λ b is. omega (arith, ap (λ (x : BlockState). length x.rows) is, c.len.ensures.value, c.if-len-eq0.true)) in
     record {
-      registry = c.remove_block.ensures.registry ∙ ap (λ (v : StoreState). v.registry) c.remove_row-moved.ensures.store;
-      archetypes = c.remove_block.ensures.archetypes ∙ ap (λ (v : StoreState). v.archetypes) c.remove_row-moved.ensures.store;
+      registry = c.close_gaps.ensures.registry ∙ c.remove_block.ensures.registry ∙ ap (λ (v : StoreState). v.registry) c.remove_row-moved.ensures.store;
+      archetypes = c.close_gaps.ensures.archetypes ∙ c.remove_block.ensures.archetypes ∙ ap (λ (v : StoreState). v.archetypes) c.remove_row-moved.ensures.store;
       blocks =
-          c.remove_block.ensures.blocks ∙ sym (emptied-goes c.args.number mid.blocks c.is_sound.ensures.numbers empty)
+          c.close_gaps.ensures.blocks ∙ c.remove_block.ensures.blocks ∙ sym (emptied-goes c.args.number mid.blocks c.is_sound.ensures.numbers empty)
           ∙ ap (λ (v : StoreState). filter keep v.blocks) c.remove_row-moved.ensures.store;
     }
 

@@ -79,10 +79,13 @@ invariant_of-self c =
       written.0,
       (
         written.1,
-        subst (λ (k : Held). AreHomes (homes_of (set c.self.inside.homes.items h.home c.note_room.new.home)) (get same_home c.self.inside.found) (lodgers (set c.self.inside.slots.items c.args.number (Some (record k { block = c.push_row.new.self })))) c.self.inside.order.items)
-            same
-            (homes-noted c.self.inside c.self.invariant c.args.number h at c.index_mut.result.now c.index_mut.ensures.value c.push_row.new.self c.note_room.new.home true (nat_lt 1 (c.capacity.result - c.len.result))
-            (sym (lt-ltb (length h.block.rows) h.block.capacity room)) left c.note_room.ensures),
+        (
+          subst (λ (k : Held). AreHomes (homes_of (set c.self.inside.homes.items h.home c.note_room.new.home)) (get same_home c.self.inside.found) (lodgers (set c.self.inside.slots.items c.args.number (Some (record k { block = c.push_row.new.self })))) c.self.inside.order.items)
+              same
+              (homes-noted c.self.inside c.self.invariant c.args.number h at c.index_mut.result.now c.index_mut.ensures.value c.push_row.new.self c.note_room.new.home true (nat_lt 1 (c.capacity.result - c.len.result))
+              (sym (lt-ltb (length h.block.rows) h.block.capacity room)) left c.note_room.ensures),
+          c.self.invariant.1.1.1,
+        ),
       ),
     )
 

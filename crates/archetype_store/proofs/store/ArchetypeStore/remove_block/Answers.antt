@@ -150,9 +150,12 @@ invariant_of-self c =
       (
         subst (AreAllTyped c.release_all.new.table) (sym slots_kept)
             (typed-all s.shared c.release_all.new.table (set (kept s.slots.items) c.args.number None) keeps (typed-gone s.shared (kept s.slots.items) c.args.number (below_of (kept s.slots.items) c.args.number (beside h) there_kept) c.self.invariant.1.0)),
-        subst (λ sl. AreHomes (homes_of (set s.homes.items h.home w2)) (get same_home s.found) (lodgers sl) (set s.order.items c.archetype_and_rank-archetype.result.1 None)) (sym c.take_out-held.ensures.slots)
-            (subst (λ k. AreHomes (homes_of (set s.homes.items h.home w2)) (get same_home s.found) (lodgers (set s.slots.items c.args.number None)) (set s.order.items k None)) (sym r.1)
-            (homes-gone s c.self.invariant c.args.number h at v c.index_mut-2.ensures.value roomy w2 refl loses c.drop_rank.ensures.capacity)),
+        (
+          subst (λ sl. AreHomes (homes_of (set s.homes.items h.home w2)) (get same_home s.found) (lodgers sl) (set s.order.items c.archetype_and_rank-archetype.result.1 None)) (sym c.take_out-held.ensures.slots)
+              (subst (λ k. AreHomes (homes_of (set s.homes.items h.home w2)) (get same_home s.found) (lodgers (set s.slots.items c.args.number None)) (set s.order.items k None)) (sym r.1)
+              (homes-gone s c.self.invariant c.args.number h at v c.index_mut-2.ensures.value roomy w2 refl loses c.drop_rank.ensures.capacity)),
+          c.self.invariant.1.1.1,
+        ),
       ),
     )
 
