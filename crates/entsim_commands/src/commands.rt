@@ -3,7 +3,7 @@ ghost use Rattle.std.specs.Prelude.{◌≡◌, ◌+◌, ◌≤◌, length, true,
 ghost use Rattle.entsim_commands.specs.CheckLine.{ok_line};
 ghost use Rattle.scenario_check.specs.Built.{is_built};
 ghost use Rattle.scenario_record.specs.Runnable.{IsRunnable};
-ghost use Rattle.entsim_commands.specs.Outcome.{and_then, check_text, run_text, scenario_in};
+ghost use Rattle.entsim_commands.specs.Outcome.{and_then, check_text, checked_of, read_from, run_text, scenario_in};
 ghost use Rattle.entsim_commands.specs.Stops.{Answers, Gives, StopCauses};
 
 use crate::check_line::ok_line;
@@ -35,10 +35,20 @@ fn read_checked<S: Store>(alloc: Global, name: &str, store: &mut S) -> Result<Ch
     ensures causes { StopCauses result (S.faults store.old) (S.faults store.new) 0 0 }
     ensures files { S.files store.new ≡ S.files store.old }
 {
+    let bytes = read_whole(alloc, store, name, LONGEST_SCENARIO)?;
+    checked_from(alloc, &bytes)
+}
+
+/// Reads a scenario from the bytes of a file, checks it and plans its frames.
+fn checked_from(alloc: Global, bytes: &[u8]) -> Result<Checked, Stop>
+    ensures answer { Answers (and_then checked_of (read_from bytes.now)) result }
+    ensures runnable { IfOk result (λ c. is_built c.scenario ≡ true → IsRunnable c.scenario) }
+    ensures steps { IfOk result (λ c. length c.plan.steps ≤ MOST_SYSTEMS + 6) }
+    ensures causes { StopCauses result 0 0 0 0 }
+{
     what_is_read_can_be_checked();
     what_passes_can_be_run();
-    let bytes = read_whole(alloc, store, name, LONGEST_SCENARIO)?;
-    let scenario = read_scenario(alloc, &bytes)?;
+    let scenario = read_scenario(alloc, bytes)?;
     let plan = check(alloc, &scenario)?;
     Ok(Checked { scenario, plan })
 }

@@ -10,4 +10,5 @@ pub mod ReadSystems
 pub mod ReadEvents
 pub mod ReadStages
 pub mod ReadTop
+pub mod FirstFault
 pub mod Parts

@@ -1,5 +1,8 @@
 -- The parts of what is read, under names that the laws above can use.
 use Rattle.std.specs.Prelude.{ℕ, List}
+use Rattle.scenario_record.specs.declared.record.EventEntry.{EventEntry}
+use Rattle.scenario_record.specs.declared.record.GroupEntry.{GroupEntry}
+use Rattle.scenario_record.specs.declared.record.SystemEntry.{SystemEntry}
 use Rattle.scenario_tables.specs.declared.type_lists.Allowed.{Allowed as OfAllowed}
 use Rattle.scenario_tables.specs.declared.type_lists.Allowed.TheVariants as allowed
 use Rattle.scenario_tables.specs.declared.type_lists.Named.{Named as OfNamed}
@@ -7,11 +10,7 @@ use Rattle.scenario_tables.specs.declared.groups.Placement.{Placement as OfPlace
 use Rattle.scenario_tables.specs.declared.queries.Clauses.{Clauses as OfClauses}
 use Rattle.scenario_tables.specs.declared.queries.Filters.{Filters as OfFilters}
 use Rattle.scenario_tables.specs.declared.systems.Acts.{Acts as OfActs}
-use Rattle.scenario_tables.specs.declared.systems.Heading.{Heading as OfHeading}
-use Rattle.scenario_tables.specs.declared.systems.Body.{Body as OfBody}
 use Rattle.scenario_tables.specs.declared.events.SceneKeys.{SceneKeys as OfSceneKeys}
-use Rattle.scenario_tables.specs.declared.top.Numbers.{Numbers as OfNumbers}
-use Rattle.scenario_tables.specs.declared.top.Schedule.{Schedule as OfSchedule}
 
 abbrev pub Allowed : Type 0
 Allowed = OfAllowed
@@ -49,17 +48,30 @@ Filters = OfFilters
 abbrev pub Acts : Type 0
 Acts = OfActs
 
-abbrev pub Heading : Type 0
-Heading = OfHeading
+-- which system it is, and when it runs
+pub record Heading : Type 0 where
+  pub name : List ℕ
+  pub group : List ℕ
+  pub placement : Placement
+  pub every : ℕ
 
-abbrev pub Body : Type 0
-Body = OfBody
+-- the query of a system, and its acts
+pub record Body : Type 0 where
+  pub clauses : Clauses
+  pub filters : Filters
+  pub acts : Acts
 
 abbrev pub SceneKeys : Type 0
 SceneKeys = OfSceneKeys
 
-abbrev pub Numbers : Type 0
-Numbers = OfNumbers
+-- the numbers at the top
+pub record Numbers : Type 0 where
+  pub frames : ℕ
+  pub first_system_version : ℕ
+  pub first_entity_version : ℕ
 
-abbrev pub Schedule : Type 0
-Schedule = OfSchedule
+-- the groups, the systems and the events
+pub record Schedule : Type 0 where
+  pub group : List GroupEntry
+  pub system : List SystemEntry
+  pub event : List EventEntry

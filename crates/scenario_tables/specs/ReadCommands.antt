@@ -8,7 +8,6 @@ use Rattle.ent_types.specs.declared.type_info.TypeInfo.{TypeInfo}
 use Rattle.ent_types.specs.Types.{same_name}
 use Rattle.expr_read.specs.declared.scope.Made.{Made}
 use Rattle.expr_trees.specs.declared.tree.CommandText.{CommandText}
-use Rattle.expr_trees.specs.declared.tree.Expr.{Expr}
 use Rattle.expr_trees.specs.declared.tree.Expr.TheVariants.{Number, Variable}
 use Rattle.expr_trees.specs.declared.tree.Variable.TheVariants.{Chunk}
 use Rattle.scenario_record.specs.declared.fault.Cause.TheVariants.{BadWord}
@@ -50,18 +49,13 @@ abbrev pub command_act : List TypeInfo → List ℕ → List CommandEntry → Po
 command_act registry bound earlier buffer ms =
     required (codes "do") (system_command registry bound (made_from 0 buffer earlier)) ms
 
--- the command with this buffer, condition and key
-abbrev pub command_with : List TypeInfo → List ℕ → List CommandEntry → Point → Expr → Expr → Members → Reading CommandEntry
-command_with registry bound earlier buffer when key ms =
-    command_act registry bound earlier buffer ms >>= λ act.
-    Ok (record { buffer = buffer; when = when; key = key; act = act })
-
 abbrev pub command_keys : List TypeInfo → List ℕ → List CommandEntry → Members → Reading CommandEntry
 command_keys registry bound earlier ms =
     optional (codes "buffer") EndSimulation point ms >>= λ buffer.
     optional (codes "when") (Number (pos 1)) (system_expr registry bound) ms >>= λ when.
     optional (codes "key") (Variable Chunk) (system_expr registry bound) ms >>= λ key.
-    command_with registry bound earlier buffer when key ms
+    command_act registry bound earlier buffer ms >>= λ act.
+    Ok (record { buffer = buffer; when = when; key = key; act = act })
 
 unfoldable pub command : List TypeInfo → List ℕ → List CommandEntry → Data → Reading CommandEntry
 command registry bound earlier d =

@@ -1,12 +1,14 @@
 -- The keys of a table and the values under them, each as a key is read: the TOML type first, then the length or the
 -- range, then the word or the name.
-use Rattle.std.specs.Prelude.{ℕ, pos, ◌+◌, Bool, ◌&&◌, nat_le, nat_lt, if◌then◌else◌, List, [], ◌∷◌, Option, None, Some, Ok, Err}
+use Rattle.std.specs.Prelude.{ℕ, pos, ◌+◌, Bool, ◌&&◌, nat_le, nat_lt, not, ◌==◌, if◌then◌else◌, List, [], ◌∷◌, length, Option, None, Some, Ok, Err}
 use Rattle.std.specs.List.{list_any}
 use Rattle.toml.specs.Data.{Data, string, integer, boolean, array, table, Items, no_items, item, Members, no_members, member, get_member}
 use Rattle.ent_types.specs.declared.limits.TheConstants.{MOST_ORDER_NAMES}
+use Rattle.ent_types.specs.declared.kinds.FieldKind.{FieldKind}
+use Rattle.ent_types.specs.declared.type_info.FieldInfo.{FieldInfo}
 use Rattle.ent_types.specs.Names.{name_of}
 use Rattle.ent_types.specs.Types.{same_name}
-use Rattle.scenario_record.specs.declared.fault.Cause.TheVariants.{UnknownKey, Missing, WrongType, TooMany, NumberRange, BadName}
+use Rattle.scenario_record.specs.declared.fault.Cause.TheVariants.{UnknownKey, Missing, WrongType, TooMany, WrongCount, NumberRange, BadName}
 use Rattle.scenario_record.specs.declared.fault.BadScenario.{BadScenario}
 use Rattle.scenario_record.specs.Faults.{bad, below_key}
 use Rattle.scenario_record.specs.Readings.{Reading, under, at_place, ◌>>=◌, changed, unless, or_fault, fault_if}
@@ -109,6 +111,15 @@ each_up_to most read d = list_up_to most d >>= each_from read 0
 abbrev pub each_over : {S : Type 0} → (S → Data → Reading S) → S → ℕ → Items → Reading S
 each_over step state i no_items = Ok state
 each_over step state i (item d ds) = at_place i (step state d) >>= λ next. each_over step next (i + 1) ds
+
+-- one value for each field; the first has this place
+abbrev pub field_values_from : {A : Type 0} → (FieldKind → Data → Reading A) → ℕ → List FieldInfo → Items → Reading (List A)
+field_values_from read i [] ds = Ok []
+field_values_from read i (f ∷ fs) no_items = Ok []
+field_values_from read i (f ∷ fs) (item d ds) = at_place i (read f.kind d) >>= λ v. changed (λ vs. v ∷ vs) (field_values_from read (i + 1) fs ds)
+
+abbrev pub field_values : {A : Type 0} → (FieldKind → Data → Reading A) → List FieldInfo → Items → Reading (List A)
+field_values read fields ds = unless (fault_if (not (item_count ds == length fields)) WrongCount) (field_values_from read 0 fields ds)
 
 -- the values of all keys of a table, in order of the keys' bytes
 abbrev pub each_member : {A : Type 0} → (List ℕ → Data → Reading A) → Members → Reading (List A)

@@ -1,6 +1,6 @@
 -- Which rows a system visits: the five clauses and the filters.
-use Rattle.std.specs.Prelude.{ℕ, ◌+◌, false, not, ◌==◌, List, [], ◌∷◌, length, codes, fold, Ok, Err}
-use Rattle.toml.specs.Data.{Data, integer, Items, no_items, item, Members}
+use Rattle.std.specs.Prelude.{ℕ, false, not, List, [], codes, fold, Ok, Err}
+use Rattle.toml.specs.Data.{Data, integer, Items, Members}
 use Rattle.ent_types.specs.declared.limits.TheConstants.{MOST_TYPES, MOST_CHANGED, MOST_SHARED_FILTERS}
 use Rattle.ent_types.specs.declared.kinds.FieldKind.{FieldKind}
 use Rattle.ent_types.specs.declared.type_info.FieldInfo.{FieldInfo}
@@ -11,15 +11,15 @@ use Rattle.ent_types.specs.declared.value.Part.{Part}
 use Rattle.ent_types.specs.Fitting.{fits_field}
 use Rattle.ent_types.specs.Registries.{type_at}
 use Rattle.ent_types.specs.TypeSets.{with_type}
-use Rattle.scenario_record.specs.declared.fault.Cause.TheVariants.{WrongType, NumberRange, WrongCount}
+use Rattle.scenario_record.specs.declared.fault.Cause.TheVariants.{WrongType, NumberRange}
 use Rattle.scenario_record.specs.Faults.{bad}
-use Rattle.scenario_record.specs.Readings.{Reading, at_place, ◌>>=◌, changed, unless, fault_if}
+use Rattle.scenario_record.specs.Readings.{Reading, ◌>>=◌, changed, unless, fault_if}
 use Rattle.scenario_tables.specs.declared.queries.Clauses.{Clauses}
 use Rattle.scenario_tables.specs.declared.queries.Filters.{Filters}
 use Rattle.scenario_tables.specs.declared.type_lists.Allowed.{Allowed}
 use Rattle.scenario_tables.specs.declared.type_lists.Allowed.TheVariants.{AnyType, Enableable, UnsharedOf, SharedOf}
 use Rattle.scenario_tables.specs.declared.type_lists.Named.{Named}
-use Rattle.scenario_tables.specs.ReadKeys.{optional, truth, list, members_up_to, item_count, each_member}
+use Rattle.scenario_tables.specs.ReadKeys.{optional, truth, list, members_up_to, field_values_from, field_values, each_member}
 use Rattle.scenario_tables.specs.ReadTypeLists.{type_of_key, type_list, none_beside}
 
 -- ---- the five clauses, which name no type twice between them
@@ -54,13 +54,10 @@ shared_value kind d = Err (bad WrongType)
 
 -- one value for each field
 abbrev pub shared_values_from : ℕ → List FieldInfo → Items → Reading (List Value)
-shared_values_from i [] ds = Ok []
-shared_values_from i (f ∷ fs) no_items = Ok []
-shared_values_from i (f ∷ fs) (item d ds) =
-    at_place i (shared_value f.kind d) >>= λ v. changed (λ vs. v ∷ vs) (shared_values_from (i + 1) fs ds)
+shared_values_from i fields ds = field_values_from shared_value i fields ds
 
 abbrev pub shared_values : List FieldInfo → Items → Reading (List Value)
-shared_values fields ds = unless (fault_if (not (item_count ds == length fields)) WrongCount) (shared_values_from 0 fields ds)
+shared_values fields ds = field_values shared_value fields ds
 
 abbrev pub shared_part_of : List TypeInfo → Items → ℕ → Reading Part
 shared_part_of registry ds ty =

@@ -1,6 +1,6 @@
 -- The table of a spawn: `count`, `with`, `disabled`.
-use Rattle.std.specs.Prelude.{ℕ, ◌+◌, not, ◌==◌, List, [], ◌∷◌, length, fold, codes, Ok, Err}
-use Rattle.toml.specs.Data.{Data, string, integer, Items, no_items, item, Members}
+use Rattle.std.specs.Prelude.{ℕ, not, List, [], ◌∷◌, fold, codes, Ok, Err}
+use Rattle.toml.specs.Data.{Data, string, integer, Items}
 use Rattle.ent_types.specs.declared.limits.TheConstants.{MOST_ENTITIES}
 use Rattle.ent_types.specs.declared.kinds.FieldKind.{FieldKind}
 use Rattle.ent_types.specs.declared.kinds.FieldKind.TheVariants.{I32, I64, Ref as RefKind}
@@ -14,12 +14,12 @@ use Rattle.expr_trees.specs.declared.tree.Expr.TheVariants.{Number}
 use Rattle.expr_trees.specs.declared.tree.ValueExpr.{ValueExpr}
 use Rattle.expr_trees.specs.declared.tree.ValueExpr.TheVariants.{Int as IntExpr, Ref as RefExpr}
 use Rattle.expr_trees.specs.declared.tree.PartExpr.{PartExpr}
-use Rattle.scenario_record.specs.declared.fault.Cause.TheVariants.{WrongType, NumberRange, WrongCount}
+use Rattle.scenario_record.specs.declared.fault.Cause.TheVariants.{WrongType, NumberRange}
 use Rattle.scenario_record.specs.declared.record.SpawnEntry.{SpawnEntry}
 use Rattle.scenario_record.specs.Faults.{bad}
-use Rattle.scenario_record.specs.Readings.{Reading, at_place, ◌>>=◌, changed, unless, fault_if}
+use Rattle.scenario_record.specs.Readings.{Reading, ◌>>=◌, changed, unless, fault_if}
 use Rattle.scenario_tables.specs.declared.type_lists.Allowed.TheVariants.{Spawned, EnableableOf}
-use Rattle.scenario_tables.specs.ReadKeys.{known_table, optional, number, text, list, members, item_count, each_over, each_member}
+use Rattle.scenario_tables.specs.ReadKeys.{known_table, optional, number, text, list, members, each_over, field_values_from, field_values, each_member}
 use Rattle.scenario_tables.specs.ReadTexts.{spawn_expr, spawn_ref}
 use Rattle.scenario_tables.specs.ReadTypeLists.{type_of_key, one_more_type, none_beside}
 
@@ -41,14 +41,10 @@ field_value registry RefKind d = ref_value registry d
 
 -- one value for each field
 abbrev pub values_from : List TypeInfo → ℕ → List FieldInfo → Items → Reading (List ValueExpr)
-values_from registry i [] ds = Ok []
-values_from registry i (f ∷ fs) no_items = Ok []
-values_from registry i (f ∷ fs) (item d ds) =
-    at_place i (field_value registry f.kind d) >>= λ v. changed (λ vs. v ∷ vs) (values_from registry (i + 1) fs ds)
+values_from registry i fields ds = field_values_from (field_value registry) i fields ds
 
 abbrev pub part_values : List TypeInfo → List FieldInfo → Items → Reading (List ValueExpr)
-part_values registry fields ds =
-    unless (fault_if (not (item_count ds == length fields)) WrongCount) (values_from registry 0 fields ds)
+part_values registry fields ds = field_values (field_value registry) fields ds
 
 abbrev pub part_of : List TypeInfo → Items → ℕ → Reading PartExpr
 part_of registry ds ty =
@@ -77,15 +73,10 @@ disabled_types registry types d =
 
 -- ---- the table
 
--- the spawn with this count and these parts
-abbrev pub spawn_with : List TypeInfo → ℕ → List PartExpr → Members → Reading SpawnEntry
-spawn_with registry count parts ms =
-    optional (codes "disabled") [] (disabled_types registry (part_types parts)) ms >>= λ disabled.
-    Ok (record { count = count; parts = parts; disabled = disabled })
-
 unfoldable pub spawn : List TypeInfo → Data → Reading SpawnEntry
 spawn registry d =
     known_table (codes "count" ∷ codes "with" ∷ codes "disabled" ∷ []) d >>= λ ms.
     optional (codes "count") 1 (number 1 MOST_ENTITIES) ms >>= λ count.
     optional (codes "with") [] (with_table registry) ms >>= λ parts.
-    spawn_with registry count parts ms
+    optional (codes "disabled") [] (disabled_types registry (part_types parts)) ms >>= λ disabled.
+    Ok (record { count = count; parts = parts; disabled = disabled })

@@ -1,28 +1,18 @@
 -- The table of a system: `name`, `group`, the keys that place it, `every`, the keys of its query, and its acts on each row.
-use Rattle.std.specs.Prelude.{ℕ, List, [], ◌∷◌, codes, Ok}
+use Rattle.std.specs.Prelude.{ℕ, ◌&&◌, List, [], ◌∷◌, codes, Ok}
 use Rattle.toml.specs.Data.{Data, Members}
 use Rattle.ent_types.specs.declared.limits.TheConstants.{MOST_FRAMES, MOST_ASSIGNS, MOST_SWITCHES}
 use Rattle.ent_types.specs.declared.type_info.TypeInfo.{TypeInfo}
-use Rattle.expr_trees.specs.declared.tree.Assign.{Assign}
-use Rattle.expr_trees.specs.declared.tree.Switch.{Switch}
 use Rattle.scenario_record.specs.declared.fault.Cause.TheVariants.{BadShape}
 use Rattle.scenario_record.specs.declared.record.SystemEntry.{SystemEntry}
 use Rattle.scenario_record.specs.Readings.{Reading, ◌>>=◌, unless, fault_if}
-use Rattle.scenario_tables.specs.declared.groups.Placement.{Placement}
 use Rattle.scenario_tables.specs.declared.systems.Acts.{Acts}
-use Rattle.scenario_tables.specs.declared.systems.Heading.{Heading}
-use Rattle.scenario_tables.specs.declared.systems.Body.{Body}
+use Rattle.scenario_tables.specs.Parts.{Heading, Body}
 use Rattle.scenario_tables.specs.ReadKeys.{known_table, required, optional, number, name, each_up_to}
 use Rattle.scenario_tables.specs.ReadTexts.{system_assign, system_switch}
-use Rattle.scenario_tables.specs.ReadGroups.{placement, in_two_bands, group_named}
+use Rattle.scenario_tables.specs.ReadGroups.{placement, group_named}
 use Rattle.scenario_tables.specs.ReadCommands.{command_list}
 use Rattle.scenario_tables.specs.ReadQueries.{clauses, bound_types, filters}
-
--- the heading with this name, group and placement
-abbrev pub heading_with : List ℕ → List ℕ → Placement → Members → Reading Heading
-heading_with name group placement ms =
-    optional (codes "every") 1 (number 1 MOST_FRAMES) ms >>= λ every.
-    Ok (record { name = name; group = group; placement = placement; every = every })
 
 -- which system it is, and when it runs
 abbrev pub heading : Members → Reading Heading
@@ -30,20 +20,16 @@ heading ms =
     required (codes "name") name ms >>= λ n.
     group_named (codes "group") ms >>= λ group.
     placement ms >>= λ p.
-    heading_with n group p ms
-
--- the acts with these assignments and switches
-abbrev pub acts_with : List TypeInfo → List ℕ → List Assign → List Switch → Members → Reading Acts
-acts_with registry bound set enable ms =
-    optional (codes "command") [] (command_list registry bound) ms >>= λ command.
-    Ok (record { set = set; enable = enable; command = command })
+    optional (codes "every") 1 (number 1 MOST_FRAMES) ms >>= λ every.
+    Ok (record { name = n; group = group; placement = p; every = every })
 
 -- the acts on each row
 abbrev pub acts : List TypeInfo → List ℕ → Members → Reading Acts
 acts registry bound ms =
     optional (codes "set") [] (each_up_to MOST_ASSIGNS (system_assign registry bound)) ms >>= λ set.
     optional (codes "enable") [] (each_up_to MOST_SWITCHES (system_switch registry bound)) ms >>= λ enable.
-    acts_with registry bound set enable ms
+    optional (codes "command") [] (command_list registry bound) ms >>= λ command.
+    Ok (record { set = set; enable = enable; command = command })
 
 -- the query and the acts
 abbrev pub body : List TypeInfo → Members → Reading Body
@@ -78,12 +64,8 @@ system_of h b = record {
 }
 
 -- a system can't be both first and last
-abbrev pub placed_system : Heading → Body → Reading SystemEntry
-placed_system h b = unless (fault_if (in_two_bands h.placement) BadShape) (Ok (system_of h b))
-
--- the system with this heading
-abbrev pub headed_system : List TypeInfo → Heading → Members → Reading SystemEntry
-headed_system registry h ms = body registry ms >>= λ b. placed_system h b
+abbrev pub placed : SystemEntry → Reading SystemEntry
+placed s = unless (fault_if (s.first && s.last) BadShape) (Ok s)
 
 abbrev pub known_in_a_system : List (List ℕ)
 known_in_a_system =
@@ -96,4 +78,5 @@ unfoldable pub system : List TypeInfo → Data → Reading SystemEntry
 system registry d =
     known_table known_in_a_system d >>= λ ms.
     heading ms >>= λ h.
-    headed_system registry h ms
+    body registry ms >>= λ b.
+    placed (system_of h b)

@@ -4,13 +4,10 @@ use Rattle.toml.specs.Data.{Members}
 use Rattle.ent_types.specs.declared.limits.TheConstants.{LAST_ENTITY_VERSION, LAST_SYSTEM_VERSION, MOST_FRAMES, MOST_SPAWNS, MOST_GROUPS, MOST_SYSTEMS, MOST_EVENTS}
 use Rattle.ent_types.specs.declared.type_info.TypeInfo.{TypeInfo}
 use Rattle.ent_types.specs.Registries.{built_in_types}
-use Rattle.scenario_record.specs.declared.record.GroupEntry.{GroupEntry}
 use Rattle.scenario_record.specs.declared.record.Scenario.{Scenario}
 use Rattle.scenario_record.specs.declared.record.SpawnEntry.{SpawnEntry}
-use Rattle.scenario_record.specs.declared.record.SystemEntry.{SystemEntry}
 use Rattle.scenario_record.specs.Readings.{Reading, ◌>>=◌, unless}
-use Rattle.scenario_tables.specs.declared.top.Numbers.{Numbers}
-use Rattle.scenario_tables.specs.declared.top.Schedule.{Schedule}
+use Rattle.scenario_tables.specs.Parts.{Numbers, Schedule}
 use Rattle.scenario_tables.specs.ReadKeys.{unknown_key, required, optional, number, each_up_to}
 use Rattle.scenario_tables.specs.ReadTypes.{registry_of}
 use Rattle.scenario_tables.specs.ReadSpawns.{spawn}
@@ -35,27 +32,24 @@ types ms = optional (codes "type") built_in_types registry_of ms
 abbrev pub spawns : List TypeInfo → Members → Reading (List SpawnEntry)
 spawns registry ms = optional (codes "spawn") [] (each_up_to MOST_SPAWNS (spawn registry)) ms
 
--- `event`, after these groups and systems
-abbrev pub schedule_with : List TypeInfo → List GroupEntry → List SystemEntry → Members → Reading Schedule
-schedule_with registry group system ms =
-    optional (codes "event") [] (each_up_to MOST_EVENTS (event registry)) ms >>= λ event.
-    Ok (record { group = group; system = system; event = event })
-
 -- `group`, `system`, `event`
 abbrev pub schedule : List TypeInfo → Members → Reading Schedule
 schedule registry ms =
     optional (codes "group") [] (each_up_to MOST_GROUPS group) ms >>= λ group.
     optional (codes "system") [] (each_up_to MOST_SYSTEMS (system registry)) ms >>= λ system.
-    schedule_with registry group system ms
+    optional (codes "event") [] (each_up_to MOST_EVENTS (event registry)) ms >>= λ event.
+    Ok (record { group = group; system = system; event = event })
 
 abbrev pub known_at_top : List (List ℕ)
 known_at_top =
     codes "frames" ∷ codes "first_system_version" ∷ codes "first_entity_version" ∷ codes "type" ∷ codes "spawn" ∷
     codes "group" ∷ codes "system" ∷ codes "event" ∷ []
 
--- the scenario with these numbers, types and spawns
-abbrev pub scenario_with : Numbers → List TypeInfo → List SpawnEntry → Members → Reading Scenario
-scenario_with n registry spawn ms =
+abbrev pub top_keys : Members → Reading Scenario
+top_keys ms =
+    numbers ms >>= λ n.
+    types ms >>= λ registry.
+    spawns registry ms >>= λ spawn.
     schedule registry ms >>= λ s.
     Ok (record {
       frames = n.frames;
@@ -69,18 +63,6 @@ scenario_with n registry spawn ms =
       placed = is_placed ms;
       unbuilt = is_unbuilt ms;
     })
-
--- the scenario with these numbers and types
-abbrev pub scenario_over : Numbers → List TypeInfo → Members → Reading Scenario
-scenario_over n registry ms =
-    spawns registry ms >>= λ spawn.
-    scenario_with n registry spawn ms
-
-abbrev pub top_keys : Members → Reading Scenario
-top_keys ms =
-    numbers ms >>= λ n.
-    types ms >>= λ registry.
-    scenario_over n registry ms
 
 unfoldable pub top_table : Members → Reading Scenario
 top_table ms = unless (unknown_key known_at_top ms) (top_keys ms)

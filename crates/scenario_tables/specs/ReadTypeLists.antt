@@ -1,5 +1,5 @@
 -- Lists of type names, and the tables whose keys are type names.
-use Rattle.std.specs.Prelude.{ℕ, ◌+◌, Bool, true, not, ◌&&◌, ◌==◌, List, [], Ok}
+use Rattle.std.specs.Prelude.{ℕ, Bool, true, not, ◌&&◌, ◌==◌, List, [], Ok}
 use Rattle.toml.specs.Data.{Data}
 use Rattle.ent_types.specs.declared.type_info.TypeInfo.{TypeInfo}
 use Rattle.ent_types.specs.Registries.{type_at, type_named}

@@ -77,10 +77,21 @@ type_keys ms =
     optional (codes "enableable") false truth ms >>= λ e.
     Ok (record { name = n; kind = k; fields = fs; enableable = e })
 
+abbrev pub type_key_names : List (List ℕ)
+type_key_names = codes "name" ∷ codes "kind" ∷ codes "fields" ∷ codes "enableable" ∷ []
+
+-- a type as it stands alone
+unfoldable pub type_table : Data → Reading TypeInfo
+type_table d = known_table type_key_names d >>= type_keys
+
 unfoldable pub type_in : List TypeInfo → Data → Reading TypeInfo
 type_in registry d =
-    known_table (codes "name" ∷ codes "kind" ∷ codes "fields" ∷ codes "enableable" ∷ []) d >>= λ ms.
+    known_table type_key_names d >>= λ ms.
     type_keys ms >>= new_type registry
+
+-- the registry with this type, too
+abbrev pub added : List TypeInfo → TypeInfo → Reading (List TypeInfo)
+added registry t = new_type registry t >>= λ new. Ok (registry ++ new ∷ [])
 
 -- ---- the list of types
 

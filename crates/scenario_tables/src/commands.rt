@@ -1,20 +1,20 @@
 //! The commands of a system, as a scenario declares them.
 ghost use Rattle.std.specs.Prelude.{◌≡◌, ◌≤◌, ◌<◌, length, IfOk};
-ghost use Rattle.toml.specs.View.{view, table_view};
+ghost use Rattle.toml.specs.View.{view};
 ghost use Rattle.ent_types.specs.declared.limits.TheConstants.{MOST_COMMANDS};
 ghost use Rattle.scenario_record.specs.Readings.{Answers};
-ghost use Rattle.scenario_tables.specs.ReadCommands.{point, same_point, name_made, made_from, command_act, command_with, command_keys, command, one_more_command, command_list};
+ghost use Rattle.scenario_tables.specs.ReadCommands.{point, same_point, name_made, made_from, command, one_more_command, command_list};
 
-use crate::form::{Form, Step, each_over, optional, required};
+use crate::form::{Form, Step, each_over, optional, required_after, settled};
 use crate::keys::{known_table, list_up_to, text};
 use crate::texts::{ActText, ExprText, SystemText};
 use ent_types::limits::MOST_COMMANDS;
 use ent_types::{Memory, Name, Point, Registry, Sequence, TypeSet};
 use expr_read::Made;
-use expr_trees::{CommandText, Expr, Variable};
+use expr_trees::{CommandText, Expr, RefExpr, Variable};
 use scenario_record::{Cause, CommandEntry, ScenarioFault, bad};
 use std::alloc::Global;
-use toml::{Table, Value};
+use toml::Value;
 
 /// The keys of a command, in reading order.
 const KEYS: [&str; 4] = ["buffer", "when", "key", "do"];
@@ -81,73 +81,6 @@ fn made_by(alloc: Global, buffer: Point, earlier: &[CommandEntry]) -> Result<Vec
     Ok(made)
 }
 
-/// Reads the act of a command into the buffer.
-fn act_of(
-    alloc: Global,
-    registry: &Registry,
-    bound: &TypeSet,
-    earlier: &[CommandEntry],
-    buffer: Point,
-    table: &Table,
-) -> Result<CommandText, ScenarioFault>
-    requires { length earlier.now ≤ MOST_COMMANDS }
-    ensures { Answers (command_act registry.now bound.now earlier.now buffer (table_view table.now)) result }
-{
-    let made = made_by(alloc, buffer, earlier)?;
-    let text = SystemText {
-        kind: ActText,
-        registry,
-        bound,
-        made: made.as_slice(),
-    };
-    required(alloc, "do", &text, table)
-}
-
-/// Reads the act of a command, whose other keys are these.
-fn command_with(
-    alloc: Global,
-    registry: &Registry,
-    bound: &TypeSet,
-    earlier: &[CommandEntry],
-    buffer: Point,
-    when: Expr,
-    key: Expr,
-    table: &Table,
-) -> Result<CommandEntry, ScenarioFault>
-    requires { length earlier.now ≤ MOST_COMMANDS }
-    ensures { Answers (command_with registry.now bound.now earlier.now buffer when key (table_view table.now)) result }
-{
-    let act = act_of(alloc, registry, bound, earlier, buffer, table)?;
-    Ok(CommandEntry {
-        buffer,
-        when,
-        key,
-        act,
-    })
-}
-
-fn command_keys(
-    alloc: Global,
-    registry: &Registry,
-    bound: &TypeSet,
-    earlier: &[CommandEntry],
-    table: &Table,
-) -> Result<CommandEntry, ScenarioFault>
-    requires { length earlier.now ≤ MOST_COMMANDS }
-    ensures { Answers (command_keys registry.now bound.now earlier.now (table_view table.now)) result }
-{
-    let expr = SystemText {
-        kind: ExprText,
-        registry,
-        bound,
-        made: &[],
-    };
-    let buffer = optional(alloc, "buffer", Point::EndSimulation, &PointForm, table)?;
-    let when = optional(alloc, "when", Expr::Number(1), &expr, table)?;
-    let key = optional(alloc, "key", Expr::Variable(Variable::Chunk), &expr, table)?;
-    command_with(alloc, registry, bound, earlier, buffer, when, key, table)
-}
-
 /// Reads a command, whose system has these commands before it.
 #[tactic(auto, unfolding(crate::specs::ReadCommands::command))]
 fn command_in(
@@ -161,7 +94,48 @@ fn command_in(
     ensures { Answers (command registry.now bound.now earlier.now (view value.now)) result }
 {
     let table = known_table(alloc, &KEYS, value)?;
-    command_keys(alloc, registry, bound, earlier, table)
+    let expr = SystemText {
+        kind: ExprText,
+        registry,
+        bound,
+        made: &[],
+    };
+    let mut fault = None;
+    let buffer = optional(
+        alloc,
+        &mut fault,
+        "buffer",
+        Point::EndSimulation,
+        &PointForm,
+        table,
+    );
+    let made = made_by(alloc, buffer, earlier)?;
+    let text = SystemText {
+        kind: ActText,
+        registry,
+        bound,
+        made: made.as_slice(),
+    };
+    let when = optional(alloc, &mut fault, "when", Expr::Number(1), &expr, table);
+    let key = optional(
+        alloc,
+        &mut fault,
+        "key",
+        Expr::Variable(Variable::Chunk),
+        &expr,
+        table,
+    );
+    let nothing = CommandText::Destroy(RefExpr::Null);
+    let act = required_after(alloc, &mut fault, "do", nothing, &text, table);
+    settled(
+        fault,
+        Ok(CommandEntry {
+            buffer,
+            when,
+            key,
+            act,
+        }),
+    )
 }
 
 /// The commands of a system.
@@ -186,12 +160,12 @@ impl<'a> Step for CommandsForm<'a> {
         &self,
         alloc: Global,
         _place: usize,
-        mut commands: Sequence<CommandEntry>,
+        commands: &mut Sequence<CommandEntry>,
         value: &Value,
-    ) -> Result<Sequence<CommandEntry>, ScenarioFault> {
+    ) -> Result<(), ScenarioFault> {
         let command = command_in(alloc, self.registry, self.bound, commands.as_slice(), value)?;
         commands.push(command)?;
-        Ok(commands)
+        Ok(())
     }
 }
 

@@ -1,19 +1,18 @@
 //! Events, as a scenario declares them.
 ghost use Rattle.std.specs.Prelude.{None, Some};
-ghost use Rattle.toml.specs.View.{table_view};
 ghost use Rattle.scenario_record.specs.declared.record.EventAct.TheVariants.{Unload};
 ghost use Rattle.scenario_record.specs.Readings.{Answers, Passes};
-ghost use Rattle.scenario_tables.specs.ReadEvents.{file_name, scene_keys, load_act, lone_fault, lone_act, operation_fault, act_of, event_with, event_keys, event};
+ghost use Rattle.scenario_tables.specs.ReadEvents.{file_name, load_act, lone_fault, lone_act, operation_fault, act_of, event_with, event};
 
-use crate::form::{Form, missing, perhaps, required};
+use crate::form::{Form, Maybe, optional, required, settled};
 use crate::keys::{NameForm, NumberForm, known_table, text};
 use crate::texts::OperationForm;
 use ent_types::limits::{LONGEST_FILE_NAME, MOST_FRAMES};
 use ent_types::{Name, Registry, Sequence};
 use expr_trees::CommandText;
-use scenario_record::{Cause, EventAct, EventEntry, FileName, ScenarioFault, bad};
+use scenario_record::{Cause, EventAct, EventEntry, FileName, ScenarioFault, bad, below_key};
 use std::alloc::Global;
-use toml::{Table, Value};
+use toml::Value;
 
 /// The keys of an event, in reading order.
 const KEYS: [&str; 6] = ["frame", "do", "load", "as", "delay", "unload"];
@@ -53,7 +52,7 @@ fn load_act(
             label,
             delay: delay.unwrap_or(1),
         }),
-        None => missing(alloc, "as"),
+        None => Err(below_key(alloc, "as", bad(alloc, Cause::Missing))),
     }
 }
 
@@ -80,25 +79,6 @@ struct SceneKeys {
     delay: Option<u32>,
     /// The load that is unloaded.
     unload: Option<Name>,
-}
-
-fn scene_keys(alloc: Global, table: &Table) -> Result<SceneKeys, ScenarioFault>
-    ensures { Answers (scene_keys (table_view table.now)) result }
-{
-    let delays = NumberForm {
-        low: 0,
-        high: MOST_FRAMES,
-    };
-    let load = perhaps(alloc, "load", &FileForm, table)?;
-    let label = perhaps(alloc, "as", &NameForm, table)?;
-    let delay = perhaps(alloc, "delay", &delays, table)?;
-    let unload = perhaps(alloc, "unload", &NameForm, table)?;
-    Ok(SceneKeys {
-        load,
-        label,
-        delay,
-        unload,
-    })
 }
 
 /// Checks that an event with `do` has no other key of an act.
@@ -177,24 +157,6 @@ fn event_with(
     Ok(EventEntry { frame, act })
 }
 
-fn event_keys(
-    alloc: Global,
-    registry: &Registry,
-    table: &Table,
-) -> Result<EventEntry, ScenarioFault>
-    ensures { Answers (event_keys registry.now (table_view table.now)) result }
-{
-    let frames = NumberForm {
-        low: 1,
-        high: MOST_FRAMES,
-    };
-    let operations = OperationForm { registry };
-    let frame = required(alloc, "frame", &frames, table)?;
-    let operation = perhaps(alloc, "do", &operations, table)?;
-    let keys = scene_keys(alloc, table)?;
-    event_with(alloc, frame, operation, keys)
-}
-
 /// An event.
 #[derive(Clone, Copy)]
 pub(crate) struct EventForm<'a> {
@@ -209,7 +171,37 @@ impl<'a> Form for EventForm<'a> {
 
     #[tactic(auto, unfolding(crate::specs::ReadEvents::event))]
     fn read(&self, alloc: Global, value: &Value) -> Result<EventEntry, ScenarioFault> {
+        let frames = NumberForm {
+            low: 1,
+            high: MOST_FRAMES,
+        };
+        let operations = Maybe {
+            form: OperationForm {
+                registry: self.registry,
+            },
+        };
+        let files = Maybe { form: FileForm };
+        let names = Maybe { form: NameForm };
+        let delays = Maybe {
+            form: NumberForm {
+                low: 0,
+                high: MOST_FRAMES,
+            },
+        };
         let table = known_table(alloc, &KEYS, value)?;
-        event_keys(alloc, self.registry, table)
+        let frame = required(alloc, "frame", &frames, table)?;
+        let mut fault = None;
+        let operation = optional(alloc, &mut fault, "do", None, &operations, table);
+        let load = optional(alloc, &mut fault, "load", None, &files, table);
+        let label = optional(alloc, &mut fault, "as", None, &names, table);
+        let delay = optional(alloc, &mut fault, "delay", None, &delays, table);
+        let unload = optional(alloc, &mut fault, "unload", None, &names, table);
+        let keys = SceneKeys {
+            load,
+            label,
+            delay,
+            unload,
+        };
+        settled(fault, event_with(alloc, frame, operation, keys))
     }
 }

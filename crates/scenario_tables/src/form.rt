@@ -1,14 +1,20 @@
 //! Readers of one kind of value, and of the keys, lists and tables that hold such values.
-ghost use Rattle.std.specs.Prelude.{ℕ, ◌≡◌, ◌+◌, ◌<◌, length, List, [], All, IfOk, Err, Ok};
+//!
+//! The keys of a table are read in turn, and the first fault counts. A reader of one key takes the first fault of the
+//! keys before it: if there is one, it reads nothing and returns the default. So a table is read without an early return,
+//! and `settled` ends it.
+ghost use Rattle.std.specs.Prelude.{ℕ, ◌≡◌, ◌+◌, ◌<◌, length, List, [], All, IfOk, OnOk, Err, Ok, Some};
 ghost use Rattle.toml.specs.Data.{Data};
 ghost use Rattle.toml.specs.View.{view, items_view, table_view};
-ghost use Rattle.scenario_record.specs.declared.fault.Cause.TheVariants.{Missing};
-ghost use Rattle.scenario_record.specs.Faults.{bad, below_key, below_place};
-ghost use Rattle.scenario_record.specs.Readings.{Reading, Answers, IsSeen};
-ghost use Rattle.scenario_tables.specs.ReadKeys.{required, optional, perhaps, each_from, each_up_to, each_over, each_member};
+ghost use Rattle.ent_types.specs.declared.kinds.FieldKind.{FieldKind};
+ghost use Rattle.ent_types.specs.Registries.{type_at};
+ghost use Rattle.scenario_record.specs.Faults.{below_key, below_place};
+ghost use Rattle.scenario_record.specs.Readings.{Reading, Answers, IsSeen, changed};
+ghost use Rattle.scenario_tables.specs.FirstFault.{Reads, StepsTo, IsSettled};
+ghost use Rattle.scenario_tables.specs.ReadKeys.{required, optional, each_up_to, each_over, field_values_from, field_values, each_member};
 
 use crate::keys::{list_up_to, value_of};
-use ent_types::Sequence;
+use ent_types::{FieldInfo, FieldKind as Kind, Registry, Sequence, TypeId};
 use scenario_record::{Cause, ScenarioFault, bad, below_key, below_place};
 use std::alloc::Global;
 use toml::{Table, Value};
@@ -22,12 +28,12 @@ pub(crate) trait Form {
     ghost reads: { Self → Data → Reading Self.Out };
 
     // A further property of each result.
-    ghost sound: { Self → Self.Out → Type 0 } = { λ _ _. Unit {0} };
+    ghost sound: { Self.Out → Type 0 } = { λ _. Unit {0} };
 
     /// Reads a value, or returns its first fault.
     fn read(&self, alloc: Global, value: &Value) -> Result<Self::Out, ScenarioFault>
         ensures answer { Answers (reads self.now (view value.now)) result }
-        ensures sound { IfOk result (λ found. sound self.now found) };
+        ensures sound { IfOk result (λ found. sound found) };
 }
 
 /// Returns a result that was read under a key, its fault seen from the table.
@@ -60,13 +66,7 @@ pub(crate) fn at_place<T>(
     }
 }
 
-/// Returns the fault of a table without a required key.
-pub(crate) fn missing<T>(alloc: Global, key: &str) -> Result<T, ScenarioFault>
-    ensures { Answers (Err (below_key key.now (bad Missing))) result }
-{
-    let fault = bad(alloc, Cause::Missing);
-    Err(below_key(alloc, key, fault))
-}
+// ---- keys
 
 /// Reads a required key.
 pub(crate) fn required<F: Form>(
@@ -75,94 +75,123 @@ pub(crate) fn required<F: Form>(
     form: &F,
     table: &Table,
 ) -> Result<F::Out, ScenarioFault>
-    ensures answer { Answers (required key.now (F.reads form.now) (table_view table.now)) result }
-    ensures sound { IfOk result (λ found. F.sound form.now found) }
+    ensures { Answers (required key.now (F.reads form.now) (table_view table.now)) result }
 {
     match value_of(table, key) {
         Some(value) => under(alloc, key, form.read(alloc, value)),
-        None => missing(alloc, key),
+        None => Err(below_key(alloc, key, bad(alloc, Cause::Missing))),
     }
 }
 
-/// Reads a key with a default.
+/// Reads a required key, unless there is a fault before it. With a fault the result is the one that is given.
+pub(crate) fn required_after<F: Form>(
+    alloc: Global,
+    fault: &mut Option<ScenarioFault>,
+    key: &str,
+    without: F::Out,
+    form: &F,
+    table: &Table,
+) -> F::Out
+    ensures { Reads (required key.now (F.reads form.now) (table_view table.now)) fault.old fault.new result }
+{
+    if let Some(_) = fault {
+        return without;
+    }
+    match required(alloc, key, form, table) {
+        Ok(found) => found,
+        Err(first) => {
+            *fault = Some(first);
+            without
+        }
+    }
+}
+
+/// Reads a key with a default, unless there is a fault before it.
 pub(crate) fn optional<F: Form>(
     alloc: Global,
+    fault: &mut Option<ScenarioFault>,
     key: &str,
     default: F::Out,
     form: &F,
     table: &Table,
-) -> Result<F::Out, ScenarioFault>
-    requires { F.sound form.now default }
-    ensures answer { Answers (optional key.now default (F.reads form.now) (table_view table.now)) result }
-    ensures sound { IfOk result (λ found. F.sound form.now found) }
+) -> F::Out
+    ensures answer { Reads (optional key.now default (F.reads form.now) (table_view table.now)) fault.old fault.new result }
+    ensures sound { F.sound default → F.sound result }
 {
+    if let Some(_) = fault {
+        return default;
+    }
     match value_of(table, key) {
-        Some(value) => under(alloc, key, form.read(alloc, value)),
-        None => Ok(default),
+        Some(value) => match under(alloc, key, form.read(alloc, value)) {
+            Ok(found) => found,
+            Err(first) => {
+                *fault = Some(first);
+                default
+            }
+        },
+        None => default,
     }
 }
 
-/// Reads a key that may be left out.
-pub(crate) fn perhaps<F: Form>(
-    alloc: Global,
-    key: &str,
-    form: &F,
-    table: &Table,
-) -> Result<Option<F::Out>, ScenarioFault>
-    ensures { Answers (perhaps key.now (F.reads form.now) (table_view table.now)) result }
-{
-    match value_of(table, key) {
-        Some(value) => {
-            let found = under(alloc, key, form.read(alloc, value))?;
-            Ok(Some(found))
+/// A value of a key that may be left out and has no default.
+#[derive(Drop)]
+pub(crate) struct Maybe<F> {
+    /// How the value is read.
+    pub(crate) form: F,
+}
+
+impl<F: Form> Form for Maybe<F> {
+    type Out = Option<F::Out>;
+
+    ghost reads = { λ it d. changed Some (F.reads it.form d) };
+
+    fn read(&self, alloc: Global, value: &Value) -> Result<Option<F::Out>, ScenarioFault> {
+        match self.form.read(alloc, value) {
+            Ok(found) => Ok(Some(found)),
+            Err(fault) => Err(fault),
         }
-        None => Ok(None),
     }
 }
 
-/// Reads the values of a list.
-fn each<F: Form>(
-    alloc: Global,
-    form: &F,
-    values: &[Value],
-) -> Result<Sequence<F::Out>, ScenarioFault>
-    ensures { Answers (each_from (F.reads form.now) 0 (items_view values.now)) result }
-{
-    let mut found = Sequence::new(alloc);
-    for (i, value) in values.iter().enumerate() {
-        let item = at_place(alloc, i, form.read(alloc, value))?;
-        found.push(item)?;
+// ---- lists
+
+/// A list of at most `most` values.
+#[derive(Drop)]
+pub(crate) struct ListOf<'a, F> {
+    /// The greatest number of values.
+    pub(crate) most: usize,
+    /// How each value is read.
+    pub(crate) form: &'a F,
+}
+
+impl<'a, F: Form> Form for ListOf<'a, F> {
+    type Out = Sequence<F::Out>;
+
+    ghost reads = { λ it d. each_up_to it.most (F.reads it.form.now) d };
+
+    fn read(&self, alloc: Global, value: &Value) -> Result<Sequence<F::Out>, ScenarioFault> {
+        let values = list_up_to(alloc, self.most, value)?;
+        let mut found = Sequence::new(alloc);
+        for (i, value) in values.iter().enumerate() {
+            let item = at_place(alloc, i, self.form.read(alloc, value))?;
+            found.push(item)?;
+        }
+        Ok(found)
     }
-    Ok(found)
 }
 
-/// Reads a list of at most `most` values.
-fn listed<F: Form>(
+/// Reads a list under a key, unless there is a fault before it. It is empty if the key is left out.
+pub(crate) fn list_under<T: Drop, F: Form<Out = Sequence<T>>>(
     alloc: Global,
-    most: usize,
-    form: &F,
-    value: &Value,
-) -> Result<Sequence<F::Out>, ScenarioFault>
-    ensures { Answers (each_up_to most (F.reads form.now) (view value.now)) result }
-{
-    let values = list_up_to(alloc, most, value)?;
-    each(alloc, form, values)
-}
-
-/// Reads the list under a key, of at most `most` values. It is empty if the key is left out.
-pub(crate) fn list_under<F: Form>(
-    alloc: Global,
+    fault: &mut Option<ScenarioFault>,
     key: &str,
-    most: usize,
     form: &F,
     table: &Table,
-) -> Result<Sequence<F::Out>, ScenarioFault>
-    ensures { Answers (optional key.now [] (each_up_to most (F.reads form.now)) (table_view table.now)) result }
+) -> Sequence<T>
+    ensures answer { Reads (optional key.now [] (F.reads form.now) (table_view table.now)) fault.old fault.new result }
+    ensures sound { F.sound [] → F.sound result }
 {
-    match value_of(table, key) {
-        Some(value) => under(alloc, key, listed(alloc, most, form, value)),
-        None => Ok(Sequence::new(alloc)),
-    }
+    optional(alloc, fault, key, Sequence::new(alloc), form, table)
 }
 
 /// How the values of a list are read one by one, each after the values before it.
@@ -179,18 +208,18 @@ pub(crate) trait Step {
     // A property of the result after this number of values.
     ghost counts: { ℕ → Self.State → Type 0 } = { λ _ _. Unit {0} };
 
-    /// Reads the value at one more place, or returns its first fault.
+    /// Reads the value at one more place, or returns its first fault. After a fault the result so far has no meaning.
     fn step(
         &self,
         alloc: Global,
         place: usize,
-        state: Self::State,
+        state: &mut Self::State,
         value: &Value,
-    ) -> Result<Self::State, ScenarioFault>
+    ) -> Result<(), ScenarioFault>
         requires takes { takes place }
-        requires counts { counts place state }
-        ensures answer { Answers (steps self.now state (view value.now)) result }
-        ensures counts { IfOk result (λ next. counts (place + 1) next) };
+        requires counts { counts place state.old }
+        ensures answer { StepsTo (steps self.now state.old (view value.now)) state.new result }
+        ensures counts { OnOk result (counts (place + 1) state.new) };
 }
 
 /// Reads the values of a list, each over those before it.
@@ -207,10 +236,62 @@ pub(crate) fn each_over<F: Step>(
 {
     let mut state = first;
     for (i, value) in values.iter().enumerate() {
-        state = at_place(alloc, i, form.step(alloc, i, state, value))?;
+        at_place(alloc, i, form.step(alloc, i, &mut state, value))?;
     }
     Ok(state)
 }
+
+/// How the value of a field is read.
+pub(crate) trait FieldForm {
+    /// The type of the result.
+    type Out: Drop;
+
+    // The reading of the value of a field of this kind.
+    ghost reads: { Self → FieldKind → Data → Reading Self.Out };
+
+    /// Reads the value of a field of this kind, or returns its first fault.
+    fn read(&self, alloc: Global, kind: Kind, value: &Value) -> Result<Self::Out, ScenarioFault>
+        ensures { Answers (reads self.now kind (view value.now)) result };
+}
+
+/// Reads a value for each field.
+fn each_field<F: FieldForm>(
+    alloc: Global,
+    form: &F,
+    fields: &[FieldInfo],
+    values: &[Value],
+) -> Result<Sequence<F::Out>, ScenarioFault>
+    requires { length values.now ≡ length fields.now }
+    ensures { Answers (field_values_from (F.reads form.now) 0 fields.now (items_view values.now)) result }
+{
+    let mut found = Sequence::new(alloc);
+    for (i, field) in fields.iter().enumerate() {
+        let value = at_place(alloc, i, form.read(alloc, field.kind, &values[i]))?;
+        found.push(value)?;
+    }
+    Ok(found)
+}
+
+/// Reads the values of a type, one for each field.
+#[tactic(auto, using(crate::proofs::KeyLemmas::counts))]
+pub(crate) fn field_values<F: FieldForm>(
+    alloc: Global,
+    form: &F,
+    registry: &Registry,
+    ty: TypeId,
+    values: &[Value],
+) -> Result<Sequence<F::Out>, ScenarioFault>
+    requires { ty.0 < length registry.now }
+    ensures { Answers (field_values (F.reads form.now) (type_at registry.now ty.0).fields (items_view values.now)) result }
+{
+    let fields = registry.info(ty).fields.as_slice();
+    if values.len() != fields.len() {
+        return Err(bad(alloc, Cause::WrongCount));
+    }
+    each_field(alloc, form, fields, values)
+}
+
+// ---- tables
 
 /// How a key and its value are read in a table whose keys aren't fixed.
 pub(crate) trait KeyForm {
@@ -221,12 +302,12 @@ pub(crate) trait KeyForm {
     ghost reads: { Self → List ℕ → Data → Reading Self.Out };
 
     // A further property of each result.
-    ghost sound: { Self → Self.Out → Type 0 } = { λ _ _. Unit {0} };
+    ghost sound: { Self.Out → Type 0 } = { λ _. Unit {0} };
 
     /// Reads a key and its value, or returns their first fault.
     fn read(&self, alloc: Global, key: &str, value: &Value) -> Result<Self::Out, ScenarioFault>
         ensures answer { Answers (reads self.now key.now (view value.now)) result }
-        ensures sound { IfOk result (λ found. sound self.now found) };
+        ensures sound { IfOk result (λ found. sound found) };
 }
 
 /// Reads the values of all keys of a table, in order of the keys' bytes.
@@ -236,7 +317,7 @@ pub(crate) fn each_member<F: KeyForm>(
     table: &Table,
 ) -> Result<Sequence<F::Out>, ScenarioFault>
     ensures answer { Answers (each_member (F.reads form.now) (table_view table.now)) result }
-    ensures sound { IfOk result (λ found. All (λ x. F.sound form.now x) found) }
+    ensures sound { IfOk result (λ found. All (λ x. F.sound x) found) }
 {
     let mut found = Sequence::new(alloc);
     for (key, value) in table {
@@ -245,4 +326,17 @@ pub(crate) fn each_member<F: KeyForm>(
         found.push(item)?;
     }
     Ok(found)
+}
+
+/// Returns the first fault of a table's keys, or else the answer that follows them.
+pub(crate) fn settled<T: Drop>(
+    fault: Option<ScenarioFault>,
+    answer: Result<T, ScenarioFault>,
+) -> Result<T, ScenarioFault>
+    ensures { IsSettled fault answer result }
+{
+    match fault {
+        Some(fault) => Err(fault),
+        None => answer,
+    }
 }

@@ -2,9 +2,10 @@
 ghost use Rattle.std.specs.Prelude.{◌≡◌};
 ghost use Rattle.toml.specs.View.{table_view};
 ghost use Rattle.scenario_record.specs.Readings.{Answers};
-ghost use Rattle.scenario_tables.specs.ReadGroups.{placement, in_two_bands, default_group, group_named, group_with, group_keys, group};
+ghost use Rattle.scenario_tables.specs.FirstFault.{Reads};
+ghost use Rattle.scenario_tables.specs.ReadGroups.{placement, in_two_bands, default_group, group_named, group_with, group};
 
-use crate::form::{Form, list_under, optional, required};
+use crate::form::{Form, ListOf, list_under, optional, required, settled};
 use crate::keys::{NameForm, TruthForm, known_table};
 use ent_types::limits::MOST_ORDER_NAMES;
 use ent_types::{Name, Sequence};
@@ -28,20 +29,28 @@ pub(crate) struct Placement {
     pub(crate) last: bool,
 }
 
-/// Reads the keys that place a child among its siblings.
-pub(crate) fn placement_of(alloc: Global, table: &Table) -> Result<Placement, ScenarioFault>
-    ensures { Answers (placement (table_view table.now)) result }
+/// Reads the keys that place a child among its siblings, unless there is a fault before them.
+pub(crate) fn placement_of(
+    alloc: Global,
+    fault: &mut Option<ScenarioFault>,
+    table: &Table,
+) -> Placement
+    ensures { Reads (placement (table_view table.now)) fault.old fault.new result }
 {
-    let before = list_under(alloc, "before", MOST_ORDER_NAMES, &NameForm, table)?;
-    let after = list_under(alloc, "after", MOST_ORDER_NAMES, &NameForm, table)?;
-    let first = optional(alloc, "first", false, &TruthForm, table)?;
-    let last = optional(alloc, "last", false, &TruthForm, table)?;
-    Ok(Placement {
+    let names = ListOf {
+        most: MOST_ORDER_NAMES,
+        form: &NameForm,
+    };
+    let before = list_under(alloc, fault, "before", &names, table);
+    let after = list_under(alloc, fault, "after", &names, table);
+    let first = optional(alloc, fault, "first", false, &TruthForm, table);
+    let last = optional(alloc, fault, "last", false, &TruthForm, table);
+    Placement {
         before,
         after,
         first,
         last,
-    })
+    }
 }
 
 impl Placement {
@@ -63,11 +72,16 @@ fn default_group() -> Name
     }
 }
 
-/// Reads the group that a key names.
-pub(crate) fn group_named(alloc: Global, key: &str, table: &Table) -> Result<Name, ScenarioFault>
-    ensures { Answers (group_named key.now (table_view table.now)) result }
+/// Reads the group that a key names, unless there is a fault before it.
+pub(crate) fn group_named(
+    alloc: Global,
+    fault: &mut Option<ScenarioFault>,
+    key: &str,
+    table: &Table,
+) -> Name
+    ensures { Reads (group_named key.now (table_view table.now)) fault.old fault.new result }
 {
-    optional(alloc, key, default_group(), &NameForm, table)
+    optional(alloc, fault, key, default_group(), &NameForm, table)
 }
 
 /// Returns the group with this name, parent and placement, which can't be both first and last.
@@ -92,15 +106,6 @@ fn group_with(
     })
 }
 
-fn group_keys(alloc: Global, table: &Table) -> Result<GroupEntry, ScenarioFault>
-    ensures { Answers (group_keys (table_view table.now)) result }
-{
-    let name = required(alloc, "name", &NameForm, table)?;
-    let parent = group_named(alloc, "parent", table)?;
-    let placement = placement_of(alloc, table)?;
-    group_with(alloc, name, parent, placement)
-}
-
 /// A group.
 #[derive(Clone, Copy)]
 pub(crate) struct GroupForm;
@@ -113,6 +118,10 @@ impl Form for GroupForm {
     #[tactic(auto, unfolding(crate::specs::ReadGroups::group))]
     fn read(&self, alloc: Global, value: &Value) -> Result<GroupEntry, ScenarioFault> {
         let table = known_table(alloc, &KEYS, value)?;
-        group_keys(alloc, table)
+        let name = required(alloc, "name", &NameForm, table)?;
+        let mut fault = None;
+        let parent = group_named(alloc, &mut fault, "parent", table);
+        let placement = placement_of(alloc, &mut fault, table);
+        settled(fault, group_with(alloc, name, parent, placement))
     }
 }

@@ -1,11 +1,11 @@
 //! The keys of a table, and the plain values under them: truth values, numbers, texts, names, lists and tables.
 ghost use Rattle.std.specs.Prelude.{◌≡◌, ◌≤◌, length, map, MatchOption, IfOk, None, Some};
 ghost use Rattle.std.specs.List.{list_any};
-ghost use Rattle.toml.specs.Data.{integer, get_member};
+ghost use Rattle.toml.specs.Data.{get_member};
 ghost use Rattle.toml.specs.View.{view, items_view, table_view};
 ghost use Rattle.ent_types.specs.Types.{same_name};
 ghost use Rattle.scenario_record.specs.Readings.{Answers, AnswersAs, Passes};
-ghost use Rattle.scenario_tables.specs.ReadKeys.{unknown_key, truth, number, text, name_in, name, list, members, known_table, few_items, list_up_to, few_members, members_up_to};
+ghost use Rattle.scenario_tables.specs.ReadKeys.{unknown_key, truth, number, text, name_in, name, list, members, known_table, list_up_to, members_up_to};
 
 use crate::form::Form;
 use ent_types::Name;
@@ -89,6 +89,7 @@ pub(crate) fn known_table<'a>(
 }
 
 /// Reads a list of at most `most` values.
+#[tactic(auto, using(crate::proofs::KeyLemmas::counts))]
 pub(crate) fn list_up_to(
     alloc: Global,
     most: usize,
@@ -98,21 +99,14 @@ pub(crate) fn list_up_to(
     ensures few { IfOk result (λ found. length found.now ≤ most) }
 {
     let found = list(alloc, value)?;
-    few_items(alloc, most, found)
-}
-
-#[tactic(auto, using(crate::proofs::KeyLemmas::counts))]
-fn few_items(alloc: Global, most: usize, values: &[Value]) -> Result<&[Value], ScenarioFault>
-    ensures found { AnswersAs (λ found. items_view found.now) (few_items most (items_view values.now)) result }
-    ensures few { IfOk result (λ found. length found.now ≤ most) }
-{
-    if values.len() > most {
+    if found.len() > most {
         return Err(bad(alloc, Cause::TooMany));
     }
-    Ok(values)
+    Ok(found)
 }
 
 /// Reads a table of at most `most` keys.
+#[tactic(auto, using(crate::proofs::KeyLemmas::counts))]
 pub(crate) fn members_up_to(
     alloc: Global,
     most: usize,
@@ -121,17 +115,10 @@ pub(crate) fn members_up_to(
     ensures { AnswersAs (λ found. table_view found.now) (members_up_to most (view value.now)) result }
 {
     let found = members(alloc, value)?;
-    few_members(alloc, most, found)
-}
-
-#[tactic(auto, using(crate::proofs::KeyLemmas::counts))]
-fn few_members(alloc: Global, most: usize, table: &Table) -> Result<&Table, ScenarioFault>
-    ensures { AnswersAs (λ found. table_view found.now) (few_members most (table_view table.now)) result }
-{
-    if table.len() > most {
+    if found.len() > most {
         return Err(bad(alloc, Cause::TooMany));
     }
-    Ok(table)
+    Ok(found)
 }
 
 // ---- truth values, numbers and names
@@ -162,15 +149,6 @@ pub(crate) struct NumberForm {
     pub(crate) high: u32,
 }
 
-fn in_range(alloc: Global, low: u32, high: u32, found: i64) -> Result<u32, ScenarioFault>
-    ensures { Answers (number low high (integer found)) result }
-{
-    if found < i64::from(low) || found > i64::from(high) {
-        return Err(bad(alloc, Cause::NumberRange));
-    }
-    Ok(found as u32)
-}
-
 impl Form for NumberForm {
     type Out = u32;
 
@@ -178,7 +156,12 @@ impl Form for NumberForm {
 
     fn read(&self, alloc: Global, value: &Value) -> Result<u32, ScenarioFault> {
         match value.as_integer() {
-            Some(found) => in_range(alloc, self.low, self.high, found),
+            Some(found) => {
+                if found < i64::from(self.low) || found > i64::from(self.high) {
+                    return Err(bad(alloc, Cause::NumberRange));
+                }
+                Ok(found as u32)
+            }
             None => Err(bad(alloc, Cause::WrongType)),
         }
     }

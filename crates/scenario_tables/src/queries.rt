@@ -1,17 +1,16 @@
 //! The query of a system: which rows and blocks it visits.
-ghost use Rattle.std.specs.Prelude.{◌≡◌, ◌<◌, length};
-ghost use Rattle.toml.specs.Data.{integer};
-ghost use Rattle.toml.specs.View.{view, items_view, table_view};
+ghost use Rattle.std.specs.Prelude.{◌≡◌};
+ghost use Rattle.toml.specs.View.{table_view};
 ghost use Rattle.ent_types.specs.declared.value.Value.TheVariants.{Int};
 ghost use Rattle.ent_types.specs.Fitting.{fits_field};
-ghost use Rattle.scenario_record.specs.Readings.{Answers};
-ghost use Rattle.scenario_tables.specs.ReadQueries.{clause, clauses, bound_types, changed_types, filters, shared_value, shared_values_from, shared_values, shared_part_of, shared_part, shared_table};
+ghost use Rattle.scenario_tables.specs.FirstFault.{Reads};
+ghost use Rattle.scenario_tables.specs.ReadQueries.{clause, clauses, bound_types, filters, shared_value, shared_part, shared_table};
 
-use crate::form::{Form, KeyForm, at_place, each_member, optional};
+use crate::form::{FieldForm, Form, KeyForm, each_member, field_values, list_under, optional};
 use crate::keys::{TruthForm, list, members_up_to};
 use crate::type_lists::{Allowed, Named, TypesForm, type_of_key};
 use ent_types::limits::{MOST_CHANGED, MOST_SHARED_FILTERS, MOST_TYPES};
-use ent_types::{FieldInfo, FieldKind, Part, Registry, Sequence, TypeId, TypeSet, Values};
+use ent_types::{FieldKind, Part, Registry, Sequence, TypeId, TypeSet, Values};
 use scenario_record::{Cause, ScenarioFault, bad};
 use std::alloc::Global;
 use toml::{Table, Value};
@@ -33,16 +32,17 @@ pub(crate) struct Clauses {
     pub(crate) absent: TypeSet,
 }
 
-/// Reads the types of a clause, which the clauses before it don't name.
+/// Reads the types of a clause, which the clauses before it don't name, unless there is a fault before it.
 fn clause(
     alloc: Global,
+    fault: &mut Option<ScenarioFault>,
     key: &str,
     registry: &Registry,
     allowed: &Allowed,
     taken: &TypeSet,
     table: &Table,
-) -> Result<Named, ScenarioFault>
-    ensures { Answers (clause key.now registry.now allowed.now taken.now (table_view table.now)) result }
+) -> Named
+    ensures { Reads (clause key.now registry.now allowed.now taken.now (table_view table.now)) fault.old fault.new result }
 {
     let types = TypesForm {
         most: MOST_TYPES,
@@ -50,31 +50,49 @@ fn clause(
         allowed,
         taken,
     };
-    optional(alloc, key, Named::none_beside(taken), &types, table)
+    optional(alloc, fault, key, Named::none_beside(taken), &types, table)
 }
 
-/// Reads the five clauses of a query.
+/// Reads the five clauses of a query, unless there is a fault before them.
 pub(crate) fn clauses_of(
     alloc: Global,
+    fault: &mut Option<ScenarioFault>,
     registry: &Registry,
     table: &Table,
-) -> Result<Clauses, ScenarioFault>
-    ensures { Answers (clauses registry.now (table_view table.now)) result }
+) -> Clauses
+    ensures { Reads (clauses registry.now (table_view table.now)) fault.old fault.new result }
 {
     let each = Allowed::AnyType;
     let enableable = Allowed::Enableable;
-    let all = clause(alloc, "all", registry, &each, &TypeSet::empty(), table)?;
-    let any = clause(alloc, "any", registry, &each, &all.taken, table)?;
-    let none = clause(alloc, "none", registry, &each, &any.taken, table)?;
-    let disabled = clause(alloc, "disabled", registry, &enableable, &none.taken, table)?;
-    let absent = clause(alloc, "absent", registry, &each, &disabled.taken, table)?;
-    Ok(Clauses {
+    let none_taken = TypeSet::empty();
+    let all = clause(alloc, fault, "all", registry, &each, &none_taken, table);
+    let any = clause(alloc, fault, "any", registry, &each, &all.taken, table);
+    let none = clause(alloc, fault, "none", registry, &each, &any.taken, table);
+    let disabled = clause(
+        alloc,
+        fault,
+        "disabled",
+        registry,
+        &enableable,
+        &none.taken,
+        table,
+    );
+    let absent = clause(
+        alloc,
+        fault,
+        "absent",
+        registry,
+        &each,
+        &disabled.taken,
+        table,
+    );
+    Clauses {
         all: all.found,
         any: any.found,
         none: none.found,
         disabled: disabled.found,
         absent: absent.found,
-    })
+    }
 }
 
 /// Returns the types that each visited row has.
@@ -87,36 +105,6 @@ pub(crate) fn bound_types(clauses: &Clauses) -> TypeSet
         bound = bound.with(ty);
     }
     bound
-}
-
-// ---- the change filter
-
-/// The types of which one was written since the last run.
-#[derive(Clone, Copy)]
-struct ChangedForm<'a> {
-    /// The types.
-    registry: &'a Registry,
-    /// The types that each row has.
-    all: &'a TypeSet,
-}
-
-impl<'a> Form for ChangedForm<'a> {
-    type Out = TypeSet;
-
-    ghost reads = { λ it d. changed_types it.registry.now it.all.now d };
-
-    fn read(&self, alloc: Global, value: &Value) -> Result<TypeSet, ScenarioFault> {
-        let allowed = Allowed::UnsharedOf(*self.all);
-        let none = TypeSet::empty();
-        let types = TypesForm {
-            most: MOST_CHANGED,
-            registry: self.registry,
-            allowed: &allowed,
-            taken: &none,
-        };
-        let named = types.read(alloc, value)?;
-        Ok(named.found)
-    }
 }
 
 // ---- the filter by shared values
@@ -132,71 +120,31 @@ pub(crate) fn fits(kind: FieldKind, number: i64) -> bool
     }
 }
 
-fn fitting(alloc: Global, kind: FieldKind, number: i64) -> Result<ent_types::Value, ScenarioFault>
-    ensures { Answers (shared_value kind (integer number)) result }
-{
-    if !fits(kind, number) {
-        return Err(bad(alloc, Cause::NumberRange));
-    }
-    Ok(ent_types::Value::Int(number))
-}
+/// An integer in the range of its field.
+#[derive(Clone, Copy)]
+struct SharedValue;
 
-/// Reads an integer in the range of its field.
-fn shared_value(
-    alloc: Global,
-    kind: FieldKind,
-    value: &Value,
-) -> Result<ent_types::Value, ScenarioFault>
-    ensures { Answers (shared_value kind (view value.now)) result }
-{
-    match value.as_integer() {
-        Some(number) => fitting(alloc, kind, number),
-        None => Err(bad(alloc, Cause::WrongType)),
-    }
-}
+impl FieldForm for SharedValue {
+    type Out = ent_types::Value;
 
-fn each_value(
-    alloc: Global,
-    fields: &[FieldInfo],
-    values: &[Value],
-) -> Result<Values, ScenarioFault>
-    requires { length fields.now ≡ length values.now }
-    ensures { Answers (shared_values_from 0 fields.now (items_view values.now)) result }
-{
-    let mut found = Values::new(alloc);
-    for (i, field) in fields.iter().enumerate() {
-        let value = at_place(alloc, i, shared_value(alloc, field.kind, &values[i]))?;
-        found.push(value)?;
-    }
-    Ok(found)
-}
+    ghost reads = { λ _ kind d. shared_value kind d };
 
-/// Reads one value for each field.
-#[tactic(auto, using(crate::proofs::KeyLemmas::counts))]
-fn shared_values(
-    alloc: Global,
-    fields: &[FieldInfo],
-    values: &[Value],
-) -> Result<Values, ScenarioFault>
-    ensures { Answers (shared_values fields.now (items_view values.now)) result }
-{
-    if fields.len() != values.len() {
-        return Err(bad(alloc, Cause::WrongCount));
+    fn read(
+        &self,
+        alloc: Global,
+        kind: FieldKind,
+        value: &Value,
+    ) -> Result<ent_types::Value, ScenarioFault> {
+        match value.as_integer() {
+            Some(number) => {
+                if !fits(kind, number) {
+                    return Err(bad(alloc, Cause::NumberRange));
+                }
+                Ok(ent_types::Value::Int(number))
+            }
+            None => Err(bad(alloc, Cause::WrongType)),
+        }
     }
-    each_value(alloc, fields, values)
-}
-
-fn shared_part_of(
-    alloc: Global,
-    registry: &Registry,
-    values: &[Value],
-    ty: TypeId,
-) -> Result<Part, ScenarioFault>
-    requires { ty.0 < length registry.now }
-    ensures { Answers (shared_part_of registry.now (items_view values.now) ty.0) result }
-{
-    let values = shared_values(alloc, registry.info(ty).fields.as_slice(), values)?;
-    Ok(Part { ty, values })
 }
 
 /// The shared values of a type that is a key.
@@ -216,7 +164,9 @@ impl<'a> KeyForm for SharedPartForm<'a> {
     fn read(&self, alloc: Global, key: &str, value: &Value) -> Result<Part, ScenarioFault> {
         let values = list(alloc, value)?;
         let ty = type_of_key(alloc, self.registry, &Allowed::SharedOf(*self.all), key)?;
-        shared_part_of(alloc, self.registry, values, ty)
+        let values = field_values(alloc, &SharedValue, self.registry, ty, values)?;
+        let values = Values::from_slice(alloc, values.as_slice())?;
+        Ok(Part { ty, values })
     }
 }
 
@@ -261,27 +211,35 @@ pub(crate) struct Filters {
     pub(crate) shared: Sequence<Part>,
 }
 
-/// Reads the filters of a query.
+/// Reads the filters of a query, whose rows have all of these types, unless there is a fault before them.
 pub(crate) fn filters_of(
     alloc: Global,
+    fault: &mut Option<ScenarioFault>,
     registry: &Registry,
     all: &TypeSet,
     table: &Table,
-) -> Result<Filters, ScenarioFault>
-    ensures { Answers (filters registry.now all.now (table_view table.now)) result }
+) -> Filters
+    ensures { Reads (filters registry.now all.now (table_view table.now)) fault.old fault.new result }
 {
-    let changed_types = ChangedForm { registry, all };
+    let none_taken = TypeSet::empty();
+    let changed_types = TypesForm {
+        most: MOST_CHANGED,
+        registry,
+        allowed: &Allowed::UnsharedOf(*all),
+        taken: &none_taken,
+    };
+    let none_changed = Named::none_beside(&none_taken);
     let shared_values = SharedForm { registry, all };
-    let include_disabled = optional(alloc, "include_disabled", false, &TruthForm, table)?;
-    let include_prefab = optional(alloc, "include_prefab", false, &TruthForm, table)?;
-    let changed = optional(alloc, "changed", TypeSet::empty(), &changed_types, table)?;
-    let order_changed = optional(alloc, "order_changed", false, &TruthForm, table)?;
-    let shared = optional(alloc, "shared", Sequence::new(alloc), &shared_values, table)?;
-    Ok(Filters {
+    let include_disabled = optional(alloc, fault, "include_disabled", false, &TruthForm, table);
+    let include_prefab = optional(alloc, fault, "include_prefab", false, &TruthForm, table);
+    let changed = optional(alloc, fault, "changed", none_changed, &changed_types, table);
+    let order_changed = optional(alloc, fault, "order_changed", false, &TruthForm, table);
+    let shared = list_under(alloc, fault, "shared", &shared_values, table);
+    Filters {
         include_disabled,
         include_prefab,
-        changed,
+        changed: changed.found,
         order_changed,
         shared,
-    })
+    }
 }

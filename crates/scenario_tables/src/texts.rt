@@ -7,7 +7,7 @@ ghost use Rattle.expr_read.specs.declared.scope.TextPlace.TheVariants.{System};
 ghost use Rattle.expr_read.specs.ScopeOf.{scope_of};
 ghost use Rattle.scenario_record.specs.declared.fault.ScenarioFault.TheVariants.{Bad};
 ghost use Rattle.scenario_record.specs.Readings.{Answers};
-ghost use Rattle.scenario_tables.specs.ReadTexts.{IsTextFault, text_reading, system_text, spawn_expr, spawn_ref, event_command};
+ghost use Rattle.scenario_tables.specs.ReadTexts.{IsTextFault, text_reading, system_text, event_command};
 
 use crate::form::Form;
 use crate::keys::text;
@@ -20,6 +20,8 @@ use expr_trees::{Assign, CommandText, Expr, RefExpr, Switch};
 use scenario_record::{BadScenario, Cause, ScenarioFault};
 use std::alloc::Global;
 use toml::Value;
+
+// ---- faults
 
 /// Returns a fault of a text, at its invalid token.
 fn at_token(alloc: Global, cause: Cause, at: u32) -> ScenarioFault
@@ -57,6 +59,8 @@ fn text_reading<T>(alloc: Global, found: Result<T, ExprFault>) -> Result<T, Scen
     }
 }
 
+// ---- kinds of texts
+
 /// A kind of text.
 pub(crate) trait Text {
     /// The type of its tree.
@@ -66,8 +70,8 @@ pub(crate) trait Text {
     ghost answer: { Names → List ℕ → Result Self.Tree ExprFault };
 
     /// Reads a text, or returns its fault.
-    fn read_in(&self, alloc: Global, scope: &Scope, text: &str) -> Result<Self::Tree, ScenarioFault>
-        ensures { Answers (text_reading (answer (scope_of scope.now.registry.now scope.now.place scope.now.bound.now scope.now.made.now) text.now)) result };
+    fn read_in(&self, alloc: Global, scope: &Scope, text: &str) -> Result<Self::Tree, ExprFault>
+        ensures { Tells (answer (scope_of scope.now.registry.now scope.now.place scope.now.bound.now scope.now.made.now) text.now) result };
 }
 
 /// An expression.
@@ -76,7 +80,7 @@ pub(crate) struct ExprText;
 
 /// A reference.
 #[derive(Clone, Copy)]
-struct RefText;
+pub(crate) struct RefText;
 
 /// An assignment of a system.
 #[derive(Clone, Copy)]
@@ -95,8 +99,8 @@ impl Text for ExprText {
 
     ghost answer = { λ names text. expr_answer names text };
 
-    fn read_in(&self, alloc: Global, scope: &Scope, text: &str) -> Result<Expr, ScenarioFault> {
-        text_reading(alloc, read_expr(alloc, text, scope))
+    fn read_in(&self, alloc: Global, scope: &Scope, text: &str) -> Result<Expr, ExprFault> {
+        read_expr(alloc, text, scope)
     }
 }
 
@@ -105,8 +109,8 @@ impl Text for RefText {
 
     ghost answer = { λ names text. ref_answer names text };
 
-    fn read_in(&self, alloc: Global, scope: &Scope, text: &str) -> Result<RefExpr, ScenarioFault> {
-        text_reading(alloc, read_ref(alloc, text, scope))
+    fn read_in(&self, alloc: Global, scope: &Scope, text: &str) -> Result<RefExpr, ExprFault> {
+        read_ref(alloc, text, scope)
     }
 }
 
@@ -115,8 +119,8 @@ impl Text for AssignText {
 
     ghost answer = { λ names text. assign_answer names text };
 
-    fn read_in(&self, alloc: Global, scope: &Scope, text: &str) -> Result<Assign, ScenarioFault> {
-        text_reading(alloc, read_assign(alloc, text, scope))
+    fn read_in(&self, alloc: Global, scope: &Scope, text: &str) -> Result<Assign, ExprFault> {
+        read_assign(alloc, text, scope)
     }
 }
 
@@ -125,8 +129,8 @@ impl Text for SwitchText {
 
     ghost answer = { λ names text. switch_answer names text };
 
-    fn read_in(&self, alloc: Global, scope: &Scope, text: &str) -> Result<Switch, ScenarioFault> {
-        text_reading(alloc, read_switch(alloc, text, scope))
+    fn read_in(&self, alloc: Global, scope: &Scope, text: &str) -> Result<Switch, ExprFault> {
+        read_switch(alloc, text, scope)
     }
 }
 
@@ -135,18 +139,15 @@ impl Text for ActText {
 
     ghost answer = { λ names text. command_answer names text };
 
-    fn read_in(
-        &self,
-        alloc: Global,
-        scope: &Scope,
-        text: &str,
-    ) -> Result<CommandText, ScenarioFault> {
-        text_reading(alloc, read_command(alloc, text, scope))
+    fn read_in(&self, alloc: Global, scope: &Scope, text: &str) -> Result<CommandText, ExprFault> {
+        read_command(alloc, text, scope)
     }
 }
 
+// ---- texts in their scopes
+
 /// A text of a system.
-#[derive(Clone, Copy)]
+#[derive(Drop)]
 pub(crate) struct SystemText<'a, T> {
     /// The kind of text.
     pub(crate) kind: T,
@@ -171,50 +172,28 @@ impl<'a, T: Text> Form for SystemText<'a, T> {
             bound: self.bound,
             made: self.made,
         };
-        self.kind.read_in(alloc, &scope, text)
+        text_reading(alloc, self.kind.read_in(alloc, &scope, text))
     }
 }
 
-/// Returns the scope of a text that sees no row.
-fn outside<'a>(registry: &'a Registry, place: TextPlace, none: &'a TypeSet) -> Scope<'a>
-    requires { none.now ≡ [] }
-    ensures registry { result.registry.now ≡ registry.now }
-    ensures place { result.place ≡ place }
-    ensures bound { result.bound.now ≡ [] }
-    ensures made { result.made.now ≡ [] }
+/// Reads a text that sees no row: one of a spawn or of an event.
+pub(crate) fn rowless_text<T: Text>(
+    alloc: Global,
+    kind: &T,
+    registry: &Registry,
+    place: TextPlace,
+    text: &str,
+) -> Result<T::Tree, ScenarioFault>
+    ensures { Answers (text_reading (T.answer (scope_of registry.now place [] []) text.now)) result }
 {
-    Scope {
+    let none = TypeSet::empty();
+    let scope = Scope {
         registry,
         place,
-        bound: none,
+        bound: &none,
         made: &[],
-    }
-}
-
-/// Reads an expression of a spawn.
-pub(crate) fn spawn_expr(
-    alloc: Global,
-    registry: &Registry,
-    text: &str,
-) -> Result<Expr, ScenarioFault>
-    ensures { Answers (spawn_expr registry.now text.now) result }
-{
-    let none = TypeSet::empty();
-    let scope = outside(registry, TextPlace::Spawn, &none);
-    ExprText.read_in(alloc, &scope, text)
-}
-
-/// Reads a reference of a spawn.
-pub(crate) fn spawn_ref(
-    alloc: Global,
-    registry: &Registry,
-    text: &str,
-) -> Result<RefExpr, ScenarioFault>
-    ensures { Answers (spawn_ref registry.now text.now) result }
-{
-    let none = TypeSet::empty();
-    let scope = outside(registry, TextPlace::Spawn, &none);
-    RefText.read_in(alloc, &scope, text)
+    };
+    text_reading(alloc, kind.read_in(alloc, &scope, text))
 }
 
 /// A command of an event.
@@ -231,8 +210,6 @@ impl<'a> Form for OperationForm<'a> {
 
     fn read(&self, alloc: Global, value: &Value) -> Result<CommandText, ScenarioFault> {
         let text = text(alloc, value)?;
-        let none = TypeSet::empty();
-        let scope = outside(self.registry, TextPlace::Event, &none);
-        ActText.read_in(alloc, &scope, text)
+        rowless_text(alloc, &ActText, self.registry, TextPlace::Event, text)
     }
 }

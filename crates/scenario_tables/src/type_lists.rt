@@ -2,7 +2,7 @@
 ghost use Rattle.std.specs.Prelude.{◌≡◌, ◌<◌, length, IfOk};
 ghost use Rattle.toml.specs.View.{view};
 ghost use Rattle.scenario_record.specs.Readings.{Answers, AnswersAs};
-ghost use Rattle.scenario_tables.specs.ReadTypeLists.{is_allowed, allowed_type, known_type, type_of_key, new_type_in, type_of_item, one_more_type, none_beside, found_one, type_list};
+ghost use Rattle.scenario_tables.specs.ReadTypeLists.{is_allowed, known_type, type_of_key, one_more_type, none_beside, type_list};
 
 use crate::form::{Form, Step, each_over};
 use crate::keys::{NameForm, list_up_to, name_in};
@@ -65,36 +65,9 @@ impl Named {
             found: TypeSet::empty(),
         }
     }
-
-    /// Returns this with one more type.
-    fn with(&self, ty: TypeId) -> Named
-        requires { ty.0 < MOST_TYPES }
-        ensures { result ≡ found_one self.now ty.0 }
-    {
-        Named {
-            taken: self.taken.with(ty),
-            found: self.found.with(ty),
-        }
-    }
 }
 
-/// Checks that a type is allowed here.
-fn allowed_type(
-    alloc: Global,
-    registry: &Registry,
-    allowed: &Allowed,
-    ty: TypeId,
-) -> Result<TypeId, ScenarioFault>
-    requires { ty.0 < MOST_TYPES }
-    ensures answer { AnswersAs (λ ty. ty.0) (allowed_type registry.now allowed.now ty.0) result }
-    ensures same { IfOk result (λ found. found ≡ ty) }
-{
-    if !allowed.allows(registry, ty) {
-        return Err(bad(alloc, Cause::BadKind));
-    }
-    Ok(ty)
-}
-
+/// Returns the type of a name, which has to be allowed here.
 fn known_type(
     alloc: Global,
     registry: &Registry,
@@ -105,7 +78,12 @@ fn known_type(
     ensures within { IfOk result (λ ty. (ty.0 < length registry.now) × (ty.0 < MOST_TYPES)) }
 {
     match registry.find(name) {
-        Some(ty) => allowed_type(alloc, registry, allowed, ty),
+        Some(ty) => {
+            if !allowed.allows(registry, ty) {
+                return Err(bad(alloc, Cause::BadKind));
+            }
+            Ok(ty)
+        }
         None => Err(bad(alloc, Cause::UnknownName)),
     }
 }
@@ -122,33 +100,6 @@ pub(crate) fn type_of_key(
 {
     let name = name_in(alloc, key)?;
     known_type(alloc, registry, allowed, &name)
-}
-
-/// Checks that a type isn't taken.
-fn new_type_in(alloc: Global, taken: &TypeSet, ty: TypeId) -> Result<TypeId, ScenarioFault>
-    requires { ty.0 < MOST_TYPES }
-    ensures answer { AnswersAs (λ ty. ty.0) (new_type_in taken.now ty.0) result }
-    ensures same { IfOk result (λ found. found ≡ ty) }
-{
-    if taken.has(ty) {
-        return Err(bad(alloc, Cause::DuplicateName));
-    }
-    Ok(ty)
-}
-
-fn type_of_item(
-    alloc: Global,
-    registry: &Registry,
-    allowed: &Allowed,
-    taken: &TypeSet,
-    value: &Value,
-) -> Result<TypeId, ScenarioFault>
-    ensures answer { AnswersAs (λ ty. ty.0) (type_of_item registry.now allowed.now taken.now (view value.now)) result }
-    ensures within { IfOk result (λ ty. ty.0 < MOST_TYPES) }
-{
-    let name = NameForm.read(alloc, value)?;
-    let ty = known_type(alloc, registry, allowed, &name)?;
-    new_type_in(alloc, taken, ty)
 }
 
 /// The types that the values of a list name, each once.
@@ -169,11 +120,17 @@ impl<'a> Step for TypeStep<'a> {
         &self,
         alloc: Global,
         _place: usize,
-        named: Named,
+        named: &mut Named,
         value: &Value,
-    ) -> Result<Named, ScenarioFault> {
-        let ty = type_of_item(alloc, self.registry, self.allowed, &named.taken, value)?;
-        Ok(named.with(ty))
+    ) -> Result<(), ScenarioFault> {
+        let name = NameForm.read(alloc, value)?;
+        let ty = known_type(alloc, self.registry, self.allowed, &name)?;
+        if named.taken.has(ty) {
+            return Err(bad(alloc, Cause::DuplicateName));
+        }
+        named.taken = named.taken.with(ty);
+        named.found = named.found.with(ty);
+        Ok(())
     }
 }
 

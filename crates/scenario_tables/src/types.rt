@@ -1,26 +1,23 @@
 //! Types, as a scenario declares them.
-ghost use Rattle.std.specs.Prelude.{◌≡◌, ◌≤◌, ◌<◌, ◌+◌, ◌-◌, ◌∷◌, ◌++◌, [], codes, length, None, IfOk, IsTrue, OnOk};
+ghost use Rattle.std.specs.Prelude.{◌≡◌, ◌≤◌, ◌<◌, ◌+◌, ◌-◌, length, IfOk};
 ghost use Rattle.std.specs.List.{list_any};
-ghost use Rattle.toml.specs.View.{view, table_view};
+ghost use Rattle.toml.specs.View.{view};
 ghost use Rattle.ent_types.specs.declared.entity.TheConstants.{BUILT_IN_TYPES};
 ghost use Rattle.ent_types.specs.declared.limits.TheConstants.{MOST_FIELDS, MOST_TYPES};
-ghost use Rattle.ent_types.specs.Types.{same_name, is_lawful_type};
-ghost use Rattle.ent_types.specs.Refusals.{refusal};
-ghost use Rattle.ent_types.specs.Registries.{type_named, built_in_types};
+ghost use Rattle.ent_types.specs.Types.{same_name};
 ghost use Rattle.scenario_record.specs.Readings.{Answers};
-ghost use Rattle.scenario_tables.specs.ReadKeys.{optional};
-ghost use Rattle.scenario_tables.specs.ReadTypes.{kind, field_kind_named, field_of_kind, field_named, new_field, field_in, one_more_field, fields, new_type, type_keys, type_in, one_more_type, registry_of};
+ghost use Rattle.scenario_tables.specs.FirstFault.{StepsTo};
+ghost use Rattle.scenario_tables.specs.ReadTypes.{kind, field_kind_named, field_of_kind, field_named, field_in, one_more_field, fields, type_table, added, one_more_type, registry_of};
 
-use crate::form::{Form, Step, each_over, optional, required, under};
-use crate::keys::{NameForm, TruthForm, known_table, list_up_to, text, value_of};
+use crate::form::{Form, Step, each_over, list_under, optional, required, settled};
+use crate::keys::{NameForm, TruthForm, known_table, list_up_to, text};
 use ent_types::limits::{MOST_FIELDS, MOST_TYPES};
 use ent_types::{
-    BUILT_IN_TYPES, FieldInfo, FieldKind, Kind, Memory, Name, Registry, RegistryFault, Sequence,
-    TypeInfo,
+    BUILT_IN_TYPES, FieldInfo, FieldKind, Kind, Name, Registry, RegistryFault, Sequence, TypeInfo,
 };
 use scenario_record::{Cause, ScenarioFault, bad, below_key};
 use std::alloc::Global;
-use toml::{Table, Value};
+use toml::Value;
 
 /// The keys of a type, in reading order.
 const KEYS: [&str; 4] = ["name", "kind", "fields", "enableable"];
@@ -87,25 +84,17 @@ fn has_field(fields: &[FieldInfo], name: &Name) -> bool
     fields.iter().any(|field| *name == field.name)
 }
 
-/// Checks that no earlier field has the name.
-fn new_field(
-    alloc: Global,
-    earlier: &[FieldInfo],
-    field: FieldInfo,
-) -> Result<FieldInfo, ScenarioFault>
-    ensures { Answers (new_field earlier.now field) result }
-{
-    if has_field(earlier, &field.name) {
-        return Err(bad(alloc, Cause::DuplicateName));
-    }
-    Ok(field)
-}
-
+/// Returns the field that a text declares, which no earlier field has the name of.
 fn field_in(alloc: Global, earlier: &[FieldInfo], text: &str) -> Result<FieldInfo, ScenarioFault>
     ensures { Answers (field_in earlier.now text.now) result }
 {
     match field_named(text) {
-        Some(field) => new_field(alloc, earlier, field),
+        Some(field) => {
+            if has_field(earlier, &field.name) {
+                return Err(bad(alloc, Cause::DuplicateName));
+            }
+            Ok(field)
+        }
         None => Err(bad(alloc, Cause::BadWord)),
     }
 }
@@ -125,13 +114,13 @@ impl Step for FieldsForm {
         &self,
         alloc: Global,
         _place: usize,
-        mut fields: Sequence<FieldInfo>,
+        fields: &mut Sequence<FieldInfo>,
         value: &Value,
-    ) -> Result<Sequence<FieldInfo>, ScenarioFault> {
+    ) -> Result<(), ScenarioFault> {
         let text = text(alloc, value)?;
         let field = field_in(alloc, fields.as_slice(), text)?;
         fields.push(field)?;
-        Ok(fields)
+        Ok(())
     }
 }
 
@@ -140,7 +129,7 @@ impl Form for FieldsForm {
 
     ghost reads = { λ _ d. fields d };
 
-    ghost sound = { λ _ fields. length fields ≤ MOST_FIELDS };
+    ghost sound = { λ fields. length fields ≤ MOST_FIELDS };
 
     fn read(&self, alloc: Global, value: &Value) -> Result<Sequence<FieldInfo>, ScenarioFault> {
         let values = list_up_to(alloc, MOST_FIELDS, value)?;
@@ -150,72 +139,55 @@ impl Form for FieldsForm {
 
 // ---- a type
 
-fn type_keys(alloc: Global, table: &Table) -> Result<TypeInfo, ScenarioFault>
-    ensures answer { Answers (type_keys (table_view table.now)) result }
+/// Reads a type, as it stands alone.
+#[tactic(auto, unfolding(crate::specs::ReadTypes::type_table))]
+fn type_of(alloc: Global, value: &Value) -> Result<TypeInfo, ScenarioFault>
+    ensures answer { Answers (type_table (view value.now)) result }
     ensures few { IfOk result (λ info. length info.fields ≤ MOST_FIELDS) }
 {
+    let table = known_table(alloc, &KEYS, value)?;
     let name = required(alloc, "name", &NameForm, table)?;
-    let kind = optional(alloc, "kind", Kind::Plain, &KindForm, table)?;
-    let fields = optional(alloc, "fields", Sequence::new(alloc), &FieldsForm, table)?;
-    let enableable = optional(alloc, "enableable", false, &TruthForm, table)?;
-    Ok(TypeInfo {
-        name,
-        kind,
-        fields,
-        enableable,
-    })
+    let mut fault = None;
+    let kind = optional(alloc, &mut fault, "kind", Kind::Plain, &KindForm, table);
+    let fields = list_under(alloc, &mut fault, "fields", &FieldsForm, table);
+    let enableable = optional(alloc, &mut fault, "enableable", false, &TruthForm, table);
+    settled(
+        fault,
+        Ok(TypeInfo {
+            name,
+            kind,
+            fields,
+            enableable,
+        }),
+    )
 }
 
-/// Checks that a type is well formed and has a new name.
-fn new_type(alloc: Global, registry: &Registry, info: TypeInfo) -> Result<TypeInfo, ScenarioFault>
-    ensures answer { Answers (new_type registry.now info) result }
-    ensures same { IfOk result (λ new. new ≡ info) }
-    ensures lawful { IfOk result (λ new. IsTrue (is_lawful_type new)) }
-    ensures welcome { IfOk result (λ new. type_named registry.now new.name ≡ None) }
+/// Adds a type to those before it. Its shape has to be a good one, and its name new.
+fn add(alloc: Global, registry: &mut Registry, info: TypeInfo) -> Result<(), ScenarioFault>
+    requires few { length info.fields ≤ MOST_FIELDS }
+    requires room { length registry.old < MOST_TYPES }
+    ensures { StepsTo (added registry.old info) registry.new result }
 {
     if !info.is_lawful() {
         return Err(bad(alloc, Cause::BadShape));
     }
-    if registry.find(&info.name).is_some() {
-        let fault = bad(alloc, Cause::DuplicateName);
-        return Err(below_key(alloc, "name", fault));
-    }
-    Ok(info)
-}
-
-/// Reads a type, over those before it.
-#[tactic(auto, unfolding(crate::specs::ReadTypes::type_in))]
-fn type_in(alloc: Global, registry: &Registry, value: &Value) -> Result<TypeInfo, ScenarioFault>
-    ensures answer { Answers (type_in registry.now (view value.now)) result }
-    ensures few { IfOk result (λ new. length new.fields ≤ MOST_FIELDS) }
-    ensures lawful { IfOk result (λ new. IsTrue (is_lawful_type new)) }
-    ensures welcome { IfOk result (λ new. type_named registry.now new.name ≡ None) }
-{
-    let table = known_table(alloc, &KEYS, value)?;
-    let info = type_keys(alloc, table)?;
-    new_type(alloc, registry, info)
-}
-
-// ---- the types of a scenario
-
-/// Adds a type that the registry doesn't refuse.
-fn add(registry: &mut Registry, info: TypeInfo) -> Result<(), Memory>
-    requires lawful { IsTrue (is_lawful_type info) }
-    requires welcome { refusal registry.old info ≡ None }
-    ensures { OnOk result (registry.new ≡ registry.old ++ info ∷ []) }
-{
     match registry.add(info) {
         Ok(_) => Ok(()),
-        Err(RegistryFault::Memory) => Err(Memory),
+        Err(RegistryFault::Duplicate) => {
+            let fault = bad(alloc, Cause::DuplicateName);
+            Err(below_key(alloc, "name", fault))
+        }
+        Err(RegistryFault::Memory) => Err(ScenarioFault::Memory),
         Err(RegistryFault::TooWide) => unreachable!(),
-        Err(RegistryFault::Duplicate) => unreachable!(),
         Err(RegistryFault::TooManyTypes) => unreachable!(),
     }
 }
 
-/// The types of a scenario.
+// ---- the types of a scenario
+
+/// The types of a scenario, after the built-in ones.
 #[derive(Clone, Copy)]
-struct RegistryForm;
+pub(crate) struct RegistryForm;
 
 impl Step for RegistryForm {
     type State = Registry;
@@ -226,36 +198,27 @@ impl Step for RegistryForm {
 
     ghost counts = { λ count registry. length registry ≡ BUILT_IN_TYPES + count };
 
-    #[tactic(auto, using(crate::proofs::TypeLemmas::no_refusal))]
     fn step(
         &self,
         alloc: Global,
         _place: usize,
-        mut registry: Registry,
+        registry: &mut Registry,
         value: &Value,
-    ) -> Result<Registry, ScenarioFault> {
-        let info = type_in(alloc, &registry, value)?;
-        add(&mut registry, info)?;
-        Ok(registry)
+    ) -> Result<(), ScenarioFault> {
+        let info = type_of(alloc, value)?;
+        add(alloc, registry, info)
     }
 }
 
-/// Reads the types of a scenario.
-#[tactic(auto, using(crate::proofs::TypeLemmas::built_in_count))]
-fn registry_in(alloc: Global, value: &Value) -> Result<Registry, ScenarioFault>
-    ensures { Answers (registry_of (view value.now)) result }
-{
-    let values = list_up_to(alloc, MOST_TYPES - BUILT_IN_TYPES, value)?;
-    let built_in = Registry::new(alloc)?;
-    each_over(alloc, &RegistryForm, built_in, values)
-}
+impl Form for RegistryForm {
+    type Out = Registry;
 
-/// Reads the types of a scenario, which are the built-in ones if it declares none.
-pub(crate) fn registry_at(alloc: Global, table: &Table) -> Result<Registry, ScenarioFault>
-    ensures { Answers (optional (codes "type") built_in_types registry_of (table_view table.now)) result }
-{
-    match value_of(table, "type") {
-        Some(value) => under(alloc, "type", registry_in(alloc, value)),
-        None => Ok(Registry::new(alloc)?),
+    ghost reads = { λ _ d. registry_of d };
+
+    #[tactic(auto, using(crate::proofs::TypeLemmas::built_in_count))]
+    fn read(&self, alloc: Global, value: &Value) -> Result<Registry, ScenarioFault> {
+        let values = list_up_to(alloc, MOST_TYPES - BUILT_IN_TYPES, value)?;
+        let built_in = Registry::new(alloc)?;
+        each_over(alloc, self, built_in, values)
     }
 }

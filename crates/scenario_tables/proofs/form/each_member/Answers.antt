@@ -10,7 +10,7 @@ pub loop-key-preserved : goal.loop-key-preserved
 loop-key-preserved g c =
     let form = c.args.form.now in
     let reads = g.F.KeyForm.reads form in
-    let sound = g.F.KeyForm.sound form in
+    let sound = g.F.KeyForm.sound in
     let rest = members_view c.next.new.self in
     let key = string_bytes c.in-Some.key.now in
     let d = view c.in-Some.value.now in

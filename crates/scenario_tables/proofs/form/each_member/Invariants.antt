@@ -8,5 +8,5 @@ abbrev pub invariant-loop-key : goal.invariant-loop-key
 invariant-loop-key g l =
     record {
       left : onto l.found (each_member (g.F.KeyForm.reads l.form) (members_view l.key-iterator)) ≡ each_member (g.F.KeyForm.reads l.form) (table_view l.table);
-      sound : All (λ x. g.F.KeyForm.sound l.form x) l.found;
+      sound : All (λ x. g.F.KeyForm.sound x) l.found;
     }

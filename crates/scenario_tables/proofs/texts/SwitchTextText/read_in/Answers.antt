@@ -1,4 +1,0 @@
-use Rattle.scenario_tables.proofs.texts.SwitchTextText.read_in.Goals as goal
-
-pub returns : goal.returns
-returns c = c.text_reading.ensures _ c.read_switch.ensures.told
