@@ -28,12 +28,12 @@ module _ (c d : Clock) (v : ℕ → ℕ) (registry : List TypeInfo) (s : SystemE
   abbrev turned : List Block → List Block
   turned bs = map (block_versions v) bs
 
-  abbrev Alike : ℕ → Option ℕ → Type 0
+  abbrev pub Alike : ℕ → Option ℕ → Type 0
   Alike m None = Unit {0}
   Alike m (Some l) = d.is_later (v m) (v l) ≡ c.is_later m l
 
   -- the clocks agree about a block's marks and the last run
-  abbrev BlockAlike : Block → Type 0
+  abbrev pub BlockAlike : Block → Type 0
   BlockAlike b = ((m : Mark) → In m b.marks → Alike m.moment last) × Alike b.order last
 
   marks_same : (l : ℕ) (ms : List Mark) → ((m : Mark) → In m ms → Alike m.moment (Some l))
@@ -49,7 +49,7 @@ module _ (c d : Clock) (v : ℕ → ℕ) (registry : List TypeInfo) (s : SystemE
   fresh_same (Some l) b h k =
       ap₂ (λ x y. (is_empty s.changed && not s.order_changed) || (x || (s.order_changed && y))) (marks_same l b.marks h) k
 
-  visited_same : (b : Block) → BlockAlike b → is_visited registry d s (option_map v last) (block_versions v b) ≡ is_visited registry c s last b
+  pub visited_same : (b : Block) → BlockAlike b → is_visited registry d s (option_map v last) (block_versions v b) ≡ is_visited registry c s last b
   visited_same b h =
       ap (λ f. (passes registry s b.home.types && has_shared s b.home) && (f && list_any (λ r. matches registry s (record { home = b.home; row = r })) b.rows))
       (fresh_same last b h.0 h.1)
@@ -125,16 +125,19 @@ later_same first m l version m_is l_is =
     by true false e f h = sym (lt-ltb l m (h.0 e)) ∙ f
     by false true e f h = sym e ∙ h.1 (ltb-true l m f)
 
-pub versions_run : (first : ℕ) (s : SystemEntry) (last : Option ℕ) (frame : ℕ) (w : World) → IsVersion first → IsLast last → HasMoments w
-    → run versions s (option_map (version_of first) last) frame (world_versions (version_of first) w) ≡ run_versions (version_of first) (run (moments first) s last frame w)
-versions_run first s last frame w version last_is has =
-    run_same (moments first) versions (version_of first) s last frame w
-    (sym (version_of-next first w.moment has.now))
-    (λ b i. ((λ m j. at last last_is m.moment (has.marks b i m j)), at last last_is b.order (has.order b i)))
+-- the two clocks agree about each block
+pub versions_alike : (first : ℕ) (s : SystemEntry) (last : Option ℕ) (w : World) → IsVersion first → IsLast last → HasMoments w
+    → (b : Block) → In b w.blocks → BlockAlike (moments first) versions (version_of first) w.registry s last b
+versions_alike first s last w version last_is has b i = ((λ m j. at last last_is m.moment (has.marks b i m j)), at last last_is b.order (has.order b i))
   where
     at : (o : Option ℕ) → IsLast o → (m : ℕ) → IsMoment m → Alike (moments first) versions (version_of first) w.registry s last m o
     at None h m m_is = tt
     at (Some l) h m m_is = later_same first m l version m_is h
+
+pub versions_run : (first : ℕ) (s : SystemEntry) (last : Option ℕ) (frame : ℕ) (w : World) → IsVersion first → IsLast last → HasMoments w
+    → run versions s (option_map (version_of first) last) frame (world_versions (version_of first) w) ≡ run_versions (version_of first) (run (moments first) s last frame w)
+versions_run first s last frame w version last_is has =
+    run_same (moments first) versions (version_of first) s last frame w (sym (version_of-next first w.moment has.now)) (versions_alike first s last w version last_is has)
 
 -- ---- lawful worlds
 

@@ -17,7 +17,8 @@ use Rattle.run_model.specs.Tasks.{FrameEvent, Operates, Loads, Unloads, FrameSte
 use Rattle.run_model.specs.Frames.{Buffer, State, Course, Goes, Stops, waits_at, buffer_at, all_points, buffers_of, has_entry, last_run, raised, event_done, after_buffer, unless_shared, after_buffers, after_point, after_system, step_done, course_after, course_after_all, scenes_changed}
 use Rattle.run_laws.specs.Suits.{OperationSuits, AllSuit, SystemSuits}
 use Rattle.run_laws.specs.Lawful.{IsLawfulState, EventSuits, StepSuits, event_requests, events_requests, step_requests, task_requests, HasFewLoads, OnGoes, IsLawfulWith}
-use Rattle.run_laws.proofs.RunLawful.{later_block, run_lawful, run_registry}
+use Rattle.world_laws.proofs.Replaced.{raised_lawful as world_raised}
+use Rattle.run_laws.proofs.RunLawful.{run_lawful, run_registry}
 use Rattle.run_laws.proofs.PlayLawful.{done_lawful, done_registry, played_lawful, played_registry}
 use Rattle.run_laws.proofs.EntriesSuit.{entries_suit}
 use Rattle.run_laws.proofs.ScenesLawful.{IsLawfulScenes, all_arrived_lawful, requested_lawful, unloaded_lawful}
@@ -28,22 +29,9 @@ module _ (capacity : List ℕ → ℕ) (fits : HasRoomForParts capacity) (first 
   abbrev Lawful : ℕ → State → Type 0
   Lawful count st = IsLawfulWith capacity registry count st
 
-  world_raised : (w : World) → IsLawful capacity w → IsLawful capacity (record w { moment = w.moment + 1 })
-  world_raised w h = record {
-    registry = h.registry;
-    sound = h.sound;
-    made = h.made;
-    alive = h.alive;
-    rows = h.rows;
-    blocks = λ b i. later_block capacity w.moment b (h.blocks b i);
-    free = h.free;
-    first = h.first;
-    moment = (let a = h.moment in omega arith);
-  }
-
   raised_lawful : (count : ℕ) (st : State) → Lawful count st → Lawful count (raised (moments first) capacity trace st)
   raised_lawful count st h = record {
-    lawful = record { world = world_raised st.world h.lawful.world; registry_is = h.lawful.registry_is; waiting = h.lawful.waiting; loads = h.lawful.loads };
+    lawful = record { world = world_raised capacity st.world h.lawful.world; registry_is = h.lawful.registry_is; waiting = h.lawful.waiting; loads = h.lawful.loads };
     count_is = h.count_is;
   }
 
@@ -132,7 +120,7 @@ module _ (capacity : List ℕ → ℕ) (fits : HasRoomForParts capacity) (first 
       buffers_lawful frame count (filter (waits_at point) st.waiting) (λ b i. h.lawful.waiting b (in_filter (waits_at point) b st.waiting i)) _
       (record {
         lawful = record {
-          world = world_raised st.world h.lawful.world;
+          world = world_raised capacity st.world h.lawful.world;
           registry_is = h.lawful.registry_is;
           waiting = λ b i. h.lawful.waiting b (in_filter (λ b. not (waits_at point b)) b st.waiting i);
           loads = h.lawful.loads;

@@ -24,6 +24,7 @@ use Rattle.world_model.specs.Fits.{Fits}
 use Rattle.world_model.specs.Write.{marked}
 use Rattle.world_model.specs.Lawful.{AreLawfulCells, IsLawfulRow, IsPast, IsLawfulBlock, IsLawful}
 use Rattle.world_laws.proofs.Members.{in_append, in_left, in_right, in_map}
+use Rattle.world_laws.proofs.Replaced.{later_past, later_block}
 use Rattle.expr_eval.specs.Values.{OwnRow, OtherRows, value, is_true}
 use Rattle.expr_trees.specs.declared.tree.ValueExpr.{ValueExpr}
 use Rattle.expr_trees.specs.declared.tree.ValueExpr.TheVariants as values
@@ -234,19 +235,6 @@ module _ (clock : Clock) (registry : List TypeInfo) (s : SystemEntry) (last : Op
       by : (b : Bool) → (if b then record m { moment = now } else m).type_id ≡ m.type_id
       by true = refl
       by false = refl
-
-later_past : (now m : ℕ) → IsPast now m → IsPast (now + 1) m
-later_past now m h = let a = h.within in record { from_one = h.from_one; within = omega arith }
-
-module _ (capacity : List ℕ → ℕ) where
-  pub later_block : (now : ℕ) (b : Block) → IsLawfulBlock capacity now b → IsLawfulBlock capacity (now + 1) b
-  later_block now b h = record {
-    some = h.some;
-    few = h.few;
-    marked = h.marked;
-    marks = λ m i. later_past now m.moment (h.marks m i);
-    order = later_past now b.order h.order;
-  }
 
 module _ (capacity : List ℕ → ℕ) (registry : List TypeInfo) (s : SystemEntry) (others : OtherRows) (frame : ℕ) where
   visited_lawful : (now item : ℕ) (b : Block) → IsLawfulBlock capacity now b → IsLawfulBlock capacity (now + 1) (visited registry s others frame (now + 1) item b)

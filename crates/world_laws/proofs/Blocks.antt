@@ -36,7 +36,7 @@ marked_types now types (m ∷ ms) = ap₂ (λ t ts. t ∷ ts) (step (has_type ty
     step true = refl
     step false = refl
 
-marked_now : (now : ℕ) → 1 ≤ now → (types : List ℕ) (ms : List Mark) → ((m : Mark) → In m ms → IsPast now m.moment) → (m : Mark) → In m (marked now types ms) → IsPast now m.moment
+pub marked_now : (now : ℕ) → 1 ≤ now → (types : List ℕ) (ms : List Mark) → ((m : Mark) → In m ms → IsPast now m.moment) → (m : Mark) → In m (marked now types ms) → IsPast now m.moment
 marked_now now some types ms all m i =
     let (k, j, e) = in_map (λ (m : Mark). cond (has_type types m.type_id) (record m { moment = now }) m) m ms i in
     subst (λ (x : Mark). IsPast now x.moment) (sym e) (step k (has_type types k.type_id) (all k j))

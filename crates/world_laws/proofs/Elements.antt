@@ -76,7 +76,7 @@ elements_more fields values e fits fit open_ = step (length fields) refl
             omega arith
 
 -- values of a buffer type are those of its elements
-fits_by : (b : Bool) (t : TypeInfo) (values : List Value) → is_buffer t.kind ≡ b
+pub fits_by : (b : Bool) (t : TypeInfo) (values : List Value) → is_buffer t.kind ≡ b
     → fits_type t values ≡ cond b (fits_elements MOST_ELEMENTS t.fields values) (fits_fields t.fields values)
 unfolding fits_type
 fits_by b t values is = ap (λ c. cond c (fits_elements MOST_ELEMENTS t.fields values) (fits_fields t.fields values)) is

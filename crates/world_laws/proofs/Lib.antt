@@ -23,3 +23,4 @@ pub mod NodeRows
 pub mod Twice
 pub mod FileOrder
 pub mod Arriving
+pub mod Replaced

@@ -58,7 +58,7 @@ module _ (v : ℕ → ℕ) where
       step true rest = keeps rest (record b { rows = without_row e b.rows; order = now }) (not (no_rows (without_row e b.rows)))
       step false rest = keeps rest b (not (no_rows b.rows))
 
-  marked_turned : (now : ℕ) (types : List ℕ) (ms : List Mark) → marked (v now) types (map (mark_versions v) ms) ≡ map (mark_versions v) (marked now types ms)
+  pub marked_turned : (now : ℕ) (types : List ℕ) (ms : List Mark) → marked (v now) types (map (mark_versions v) ms) ≡ map (mark_versions v) (marked now types ms)
   marked_turned now types [] = refl
   marked_turned now types (m ∷ ms) = ap₂ (λ (x : Mark) xs. x ∷ xs) (step (has_type types m.type_id)) (marked_turned now types ms)
     where

@@ -25,14 +25,14 @@ pub record Keeps (old new : BlockState) : Type 0 where
   pub columns : new.columns ≡ old.columns
   pub rows : entities new ≡ entities old
 
-keeps_length : (old new : BlockState) → Keeps old new → length new.rows ≡ length old.rows
+pub keeps_length : (old new : BlockState) → Keeps old new → length new.rows ≡ length old.rows
 keeps_length old new keeps =
     let a = length-map new.rows (λ (r : Row). r.entity) in
     let b = length-map old.rows (λ (r : Row). r.entity) in
     let same = ap length keeps.rows in
     omega arith
 
-keeps_entity : (old new : BlockState) → Keeps old new → (k : ℕ) → entity_in new.rows k ≡ entity_in old.rows k
+pub keeps_entity : (old new : BlockState) → Keeps old new → (k : ℕ) → entity_in new.rows k ≡ entity_in old.rows k
 keeps_entity old new keeps k =
     sym (slice_get-map (λ (r : Row). r.entity) new.rows k) ∙ ap (λ es. slice_get es k) keeps.rows ∙ slice_get-map (λ (r : Row). r.entity) old.rows k
 

@@ -1,6 +1,7 @@
 -- A row leaves its block: the last one takes its place, and an emptied block goes.
 use Rattle.std.proofs.Common.{◌≡◌, ℕ, suc, ◌+◌, ◌-◌, ◌<◌, ◌≤◌, ◌⊎◌, inl, inr, Bool, true, false, not, ◌&&◌, cond, nat_eq, List, [], ◌∷◌, ◌++◌, length, map, filter, swap_remove, slice_get, Option, Some, None, option_map, is_some, refl, sym, ap, ap₂, ◌∙◌, subst, arith}
 use Rattle.std.specs.Bool.{MatchBool}
+use Rattle.std.specs.Option.{IfSome}
 use Rattle.std.proofs.lemmas.Bool.{eq-eqb, ne_eqb, eqb-true, eqb-false, cases_eq, cases_lt, not-true}
 use Rattle.std.proofs.lemmas.Option.{none-some, same_Some, slice_get_past}
 use Rattle.ent_types.specs.declared.entity.Entity.{Entity}
@@ -283,6 +284,13 @@ module _ {registry : List TypeInfo} {blocks : List Numbered} {table : Table} (pl
     pub mover_alive : (d : Entity) → m ≡ Some d → IsAlive table d
     mover_alive d is = ap is_some (mover_place d is)
 
+    pub mover_if_alive : IfSome m (IsAlive table)
+    mover_if_alive = by m mover_alive
+      where
+        by : (o : Option Entity) → ((d : Entity) → o ≡ Some d → IsAlive table d) → IfSome o (IsAlive table)
+        by None alive = tt
+        by (Some d) alive = alive d refl
+
     mover_apart : m ≡ Some e → ⊥
     mover_apart is =
         let same = same_Some _ _ (sym at ∙ mover_place e is) in
@@ -292,6 +300,14 @@ module _ {registry : List TypeInfo} {blocks : List Numbered} {table : Table} (pl
 
     pub mover_moved : Moves table (with_mover m p table) m p
     mover_moved = mover_moves table m p mover_alive
+
+    -- it stays in its block
+    pub mover_block : (d : Entity) → option_map (λ q. q.block) (place_of (with_mover m p table) d) ≡ option_map (λ q. q.block) (place_of table d)
+    mover_block d = by (mover_cases m d)
+      where
+        by : (m ≡ Some d) ⊎ (m ≡ Some d → ⊥) → option_map (λ q. q.block) (place_of (with_mover m p table) d) ≡ option_map (λ q. q.block) (place_of table d)
+        by (inl is) = ap (option_map (λ (q : Place). q.block)) (mover_moved.there d is) ∙ sym (ap (option_map (λ (q : Place). q.block)) (mover_place d is))
+        by (inr other) = ap (option_map (λ (q : Place). q.block)) (mover_moved.others d other)
 
     pub left_alive : IsAlive (with_mover m p table) e
     left_alive = alive_at_place (with_mover m p table) e p (mover_moved.others e mover_apart ∙ at)

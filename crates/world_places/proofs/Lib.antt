@@ -3,6 +3,7 @@ pub mod Rows
 pub mod Numbers
 pub mod Marks
 pub mod Looking
+pub mod Whereabouts
 pub mod Kept
 pub mod Rewriting
 pub mod Tables

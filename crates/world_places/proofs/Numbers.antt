@@ -117,6 +117,17 @@ of_more n P Q (b ∷ bs) so h = by (nat_eq b.number n) h (of_more n P Q bs so)
     by true h rest = so b h
     by false h rest = rest h
 
+-- what holds of any value that the block has
+pub of_value : {X : Type 0} (n : ℕ) (f : Numbered → X) (P : Numbered → Type 0) (Q : X → Type 0) (bs : List Numbered) → ((x : X) → OfNumber n (λ b. x ≡ f b) bs → Q x) → OfNumber n P bs
+    → OfNumber n (λ b. Q (f b)) bs
+of_value n f P Q [] so there = there
+of_value n f P Q (b ∷ bs) so there = by (nat_eq b.number n) so there (of_value n f P Q bs)
+  where
+    by : (t : Bool) → ((x : _) → MatchBool t (x ≡ f b) (OfNumber n (λ c. x ≡ f c) bs) → Q x) → MatchBool t (P b) (OfNumber n P bs)
+        → (((x : _) → OfNumber n (λ c. x ≡ f c) bs → Q x) → OfNumber n P bs → OfNumber n (λ c. Q (f c)) bs) → MatchBool t (Q (f b)) (OfNumber n (λ c. Q (f c)) bs)
+    by true so there rest = so (f b) refl
+    by false so there rest = rest so there
+
 pub of_both : (n : ℕ) (P Q R : Numbered → Type 0) (bs : List Numbered) → ((b : Numbered) → P b → Q b → R b) → OfNumber n P bs → OfNumber n Q bs → OfNumber n R bs
 of_both n P Q R [] so h k = h
 of_both n P Q R (b ∷ bs) so h k = by (nat_eq b.number n) h k (of_both n P Q R bs so)

@@ -10,6 +10,7 @@ use Rattle.world_model.specs.Row.{Row}
 use Rattle.world_model.specs.World.{Home, Block, World}
 use Rattle.world_model.specs.Enter.{marks_at}
 use Rattle.world_model.specs.Found.{found, placed}
+use Rattle.world_model.specs.Leave.{has_entity}
 use Rattle.world_model.specs.Write.{marked}
 use Rattle.chunk_block.specs.Blocks.{BlockState, no_row, new_types}
 use Rattle.archetype_store.specs.Stores.{Numbered, OfNumber}
@@ -52,6 +53,12 @@ pub record AreAtPlaces (table : Table) (blocks : List Numbered) : Type 0 where
 
 abbrev pub numbers_of : List Numbered → List ℕ
 numbers_of blocks = map (λ b. b.number) blocks
+
+-- of blocks with their numbers: the number of the block in which an entity is; none where it isn't alive
+abbrev pub number_in : List Block → List ℕ → Entity → Option ℕ
+number_in [] numbers e = None
+number_in (b ∷ bs) [] e = None
+number_in (b ∷ bs) (n ∷ ns) e = if has_entity e b.rows then Some n else number_in bs ns e
 
 -- what always holds of a store's blocks and the table of their entities
 pub record IsPlaced (registry : List TypeInfo) (blocks : List Numbered) (table : Table) : Type 0 where

@@ -1,5 +1,5 @@
 -- That a row which moves gets another home.
-use Rattle.std.proofs.Common.{ℕ, ◌≡◌, ◌≢◌, ◌<◌, ◌∙◌, ◌&&◌, ◌||◌, inl, inr, Bool, true, false, cond, nat_eq, nat_lt, sym, ap, refl, subst, List, [], ◌∷◌, map, filter, Option, Some, None, arith}
+use Rattle.std.proofs.Common.{ℕ, ◌≡◌, ◌≢◌, ◌<◌, ◌∙◌, ◌&&◌, ◌||◌, inl, inr, Bool, true, false, cond, nat_eq, nat_lt, sym, ap, refl, subst, List, [], ◌∷◌, map, Some, arith}
 use Rattle.std.specs.List.{list_any}
 use Rattle.std.specs.Prelude.{option_map}
 use Rattle.std.specs.Cmp.Lexicographic.{pointwise}

@@ -13,13 +13,13 @@ use Rattle.world_model.specs.Found.{Found}
 use Rattle.world_model.specs.Lawful.{IsLawfulRow}
 use Rattle.world_model.specs.Operations.{home_kept, cells_kept, home_with, home_with_shared, home_of, cells_of}
 use Rattle.world_laws.proofs.Members.{filter_swap, map_filter, map_in, in_filter}
-use Rattle.world_laws.proofs.Types.{filter_rising, with_in, with_out, typed_types, in_typed, by_type_rises, in_by_type}
+use Rattle.world_laws.proofs.Types.{filter_rising, with_in, with_out, typed_types, in_typed, in_by_type}
 use Rattle.world_laws.proofs.NodeRows.{in_has}
 use Rattle.chunk_block.specs.Blocks.{is_off}
 use Rattle.archetype_store.specs.Stores.{shared_types}
-use Rattle.world_rows.specs.Rows.{values_at, own_types, cell_from, cells_from, part_from, shared_from, home_from, part_in}
+use Rattle.world_rows.specs.Rows.{values_at, own_types, cell_from, cells_from, part_from, home_from, part_in}
 use Rattle.world_rows.specs.Types.{set_of, home_taking}
-use Rattle.world_rows.proofs.Reading.{cells_are, parts_are, values_there, values_behind, values_first, cell_own, part_shared, cell_type_there, part_type_there, cell_read, part_read, cell_off}
+use Rattle.world_rows.proofs.Reading.{cells_are, parts_are, values_behind, values_first, cell_own, cell_type_there, part_type_there, cell_read, part_read, cell_off}
 
 -- a member of parts with one more is that one, or is of another type
 typed_from : (p q : PartOf Value) (ps : List (PartOf Value)) → IsRising (map part_type ps) → In q (with_typed part_type p ps) → (q ≡ p) ⊎ (In q ps × (p.type_id ≢ q.type_id))

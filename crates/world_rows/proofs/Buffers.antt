@@ -1,5 +1,5 @@
 -- How many values the elements of a buffer have.
-use Rattle.std.proofs.Common.{ℕ, zero, suc, ◌≡◌, ◌+◌, ◌-◌, ◌*◌, ◌/◌, ◌<◌, ◌≤◌, ◌∙◌, Bool, true, false, cond, min, sym, ap, refl, subst, List, [], ◌∷◌, length, take, drop, arith}
+use Rattle.std.proofs.Common.{ℕ, zero, suc, ◌≡◌, ◌-◌, ◌*◌, ◌/◌, ◌≤◌, ◌∙◌, true, cond, min, sym, ap, subst, List, [], ◌∷◌, length, take, drop, arith}
 use Rattle.std.proofs.lemmas.Bool.{and_parts}
 use Rattle.std.proofs.lemmas.List.{length-take, length-drop}
 use Rattle.std.proofs.lemmas.Nat.{div-mul-add}
@@ -9,6 +9,8 @@ use Rattle.ent_types.specs.declared.type_info.TypeInfo.{TypeInfo}
 use Rattle.ent_types.specs.declared.value.Value.{Value}
 use Rattle.ent_types.specs.Fitting.{fits_fields, fits_elements, fits_type}
 use Rattle.ent_types.specs.TypeLookups.{fields_at, is_buffer_at}
+use Rattle.ent_types.specs.Registries.{type_at}
+use Rattle.world_laws.proofs.Elements.{fits_by}
 use Rattle.world_model.specs.Fits.{Fits}
 use Rattle.world_rows.proofs.Filled.{fields_length}
 
@@ -35,8 +37,7 @@ divided count width size some whole = ap (λ n. n / width) (omega (arith, whole)
 
 module _ (registry : List TypeInfo) (t : ℕ) (vs : List Value) (buffer : is_buffer_at registry t ≡ true) (fits : Fits registry t vs) (some : 1 ≤ length (fields_at registry t)) where
   are : AreOfElements MOST_ELEMENTS (length (fields_at registry t)) (length vs)
-  unfolding fits_type
-  are = elements_are MOST_ELEMENTS (fields_at registry t) vs (sym (ap (λ b. cond b (fits_elements MOST_ELEMENTS (fields_at registry t) vs) (fits_fields (fields_at registry t) vs)) buffer) ∙ fits)
+  are = elements_are MOST_ELEMENTS (fields_at registry t) vs (sym (fits_by true (type_at registry t) vs buffer) ∙ fits)
 
   pub few_elements : length vs / length (fields_at registry t) ≤ MOST_ELEMENTS
   few_elements = subst (λ n. n ≤ MOST_ELEMENTS) (sym (divided are.count (length (fields_at registry t)) (length vs) some are.whole)) are.few

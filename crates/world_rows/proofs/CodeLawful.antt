@@ -1,6 +1,5 @@
 -- What a lawful world of the code has, as the lawful world that it stands for.
 use Rattle.std.proofs.Common.{ℕ, ◌≡◌, ◌+◌, ◌≤◌, ◌∙◌, nat_lt, sym, ap, ap₂, refl, subst, List, [], ◌∷◌, length, map}
-use Rattle.ent_types.specs.declared.type_info.TypeInfo.{TypeInfo}
 use Rattle.ent_types.specs.declared.limits.TheConstants.{MOST_ENTITIES}
 use Rattle.ent_types.specs.Registries.{IsLawfulRegistry}
 use Rattle.system_version.specs.Versions.{version_of}
@@ -8,8 +7,9 @@ use Rattle.world_model.specs.Members.{In, one_if, tally}
 use Rattle.world_model.specs.World.{Block, Mark, World, mark_type}
 use Rattle.world_model.specs.Found.{Found, placed, has_index, alive_count}
 use Rattle.world_model.specs.Lawful.{IsLawfulRow, IsSound, count_at, is_free_at}
-use Rattle.world_model.specs.Versions.{mark_versions, block_versions, world_versions, IsLawfulCode}
+use Rattle.world_model.specs.Versions.{mark_versions, block_versions, IsLawfulCode}
 use Rattle.world_laws.proofs.Members.{in_map}
+use Rattle.world_laws.proofs.Kept.{room_of_row}
 use Rattle.world_laws.proofs.Versions.{placed_turned}
 
 same_types : (v : ℕ → ℕ) (ms : List Mark) → map mark_type (map (mark_versions v) ms) ≡ map mark_type ms
@@ -33,6 +33,10 @@ module _ (capacity : List ℕ → ℕ) (code : World) (l : IsLawfulCode capacity
 
   pub code_rows : (x : Found) → In x (placed code.blocks) → IsLawfulRow code.registry x
   code_rows x i = subst (λ r. IsLawfulRow r x) (sym (ap (λ (w : World). w.registry) l.stands)) (l.lawful.rows x (subst (In x) code_placed i))
+
+  -- a block has room for a row of these types
+  pub code_room : (x : Found) → In x (placed code.blocks) → 1 ≤ capacity x.home.types
+  code_room x i = room_of_row capacity l.world.moment l.world.blocks l.lawful.blocks x (subst (In x) code_placed i)
 
   pub code_blocks : (b : Block) → In b code.blocks → IsMarked b
   code_blocks b i = from (in_map (block_versions v) b l.world.blocks (subst (In b) (ap (λ (w : World). w.blocks) l.stands) i))

@@ -1,5 +1,5 @@
 -- What a block is after a row was pushed, filled and marked.
-use Rattle.std.proofs.Common.{ℕ, ◌≡◌, ◌+◌, ◌<◌, ◌∙◌, Bool, true, false, sym, ap, refl, subst, List, [], ◌∷◌, ◌++◌, length, set, map, fold, reverse, arith}
+use Rattle.std.proofs.Common.{ℕ, ◌≡◌, ◌<◌, ◌∙◌, Bool, false, sym, ap, refl, subst, List, [], ◌∷◌, ◌++◌, length, set, fold, reverse, arith}
 use Rattle.std.specs.Prelude.{⊤}
 use Rattle.std.proofs.lemmas.List.{append-nil, length-set, length-append}
 use Rattle.std.proofs.Math.Seq.{get_or-append_seam, set-append_seam}
@@ -9,11 +9,10 @@ use Rattle.ent_types.specs.declared.value.Value.{Value}
 use Rattle.world_model.specs.Members.{AreDistinct}
 use Rattle.world_model.specs.Part.{PartOf}
 use Rattle.world_model.specs.Row.{Row}
-use Rattle.world_model.specs.World.{Mark, mark_type}
 use Rattle.world_model.specs.Enter.{marks_at}
-use Rattle.chunk_block.specs.Blocks.{BlockState, BlockType, IsWhole, no_row, row_in, new_row, new_types, with_mark}
+use Rattle.chunk_block.specs.Blocks.{BlockState, IsWhole, no_row, row_in, new_row, new_types, with_mark}
 use Rattle.chunk_block.proofs.New.{whole_new}
-use Rattle.archetype_store.specs.Stores.{Numbered, StoreState, OfNumber, OfBlock, with_block, with_block_in}
+use Rattle.archetype_store.specs.Stores.{Numbered, StoreState, OfBlock, with_block_in}
 use Rattle.world_places.specs.Placing.{row_entered, order_marked, numbers_of}
 use Rattle.world_places.proofs.Numbers.{block_twice, block_same, of_changed, of_more, of_both}
 use Rattle.world_places.proofs.Marks.{all_marked as all_marks}
@@ -22,7 +21,7 @@ use Rattle.world_rows.specs.Writes.{Write, AllTake, Takes, CanWrite, row_write, 
 use Rattle.world_rows.specs.Marks.{block_marked, all_marked}
 use Rattle.world_rows.specs.Entering.{IsOpen}
 use Rattle.world_rows.proofs.Filled.{filled}
-use Rattle.world_rows.proofs.Fitting.{fill_takes, take_left, take_right}
+use Rattle.world_rows.proofs.Fitting.{fill_takes, take_left}
 
 -- ---- writes one after another
 

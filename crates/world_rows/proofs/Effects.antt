@@ -1,7 +1,6 @@
 -- What writes do to one type of a row.
-use Rattle.std.proofs.Common.{ℕ, ◌≡◌, ◌≢◌, ◌∙◌, inl, inr, Bool, true, false, cond, nat_eq, sym, ap, refl, subst, List, [], ◌∷◌, ◌++◌, map, arith}
+use Rattle.std.proofs.Common.{ℕ, ◌≡◌, ◌∙◌, inl, inr, cond, nat_eq, sym, ap, refl, subst, List, [], ◌∷◌, ◌++◌, map}
 use Rattle.std.proofs.lemmas.Bool.{cases_eq, eq-eqb, ne_eqb}
-use Rattle.ent_types.specs.declared.value.Value.{Value}
 use Rattle.world_model.specs.Members.{In, AreDistinct}
 use Rattle.world_model.specs.Row.{Row, Cell, cell_type}
 use Rattle.block_columns.specs.Types.{Content, with_value, with_off, with_values}
@@ -59,11 +58,11 @@ one_changed t g (c ∷ cs) distinct =
           ∙ ap (λ b. with_content (cond b (g (content_of c)) (content_of c)) c ∷ each_cell (λ u x. cond (nat_eq t u) (g x) x) cs) (sym (ne_eqb t c.type_id apart))
     ]
 
-each_types : (g : ℕ → Content → Content) (cells : List Cell) → map cell_type (each_cell g cells) ≡ map cell_type cells
+pub each_types : (g : ℕ → Content → Content) (cells : List Cell) → map cell_type (each_cell g cells) ≡ map cell_type cells
 each_types g [] = refl
 each_types g (c ∷ cs) = ap (λ ts. c.type_id ∷ ts) (each_types g cs)
 
-each_twice : (g h : ℕ → Content → Content) (cells : List Cell) → each_cell h (each_cell g cells) ≡ each_cell (λ u c. h u (g u c)) cells
+pub each_twice : (g h : ℕ → Content → Content) (cells : List Cell) → each_cell h (each_cell g cells) ≡ each_cell (λ u c. h u (g u c)) cells
 each_twice g h [] = refl
 each_twice g h (c ∷ cs) = ap (λ xs. with_content (h c.type_id (g c.type_id (content_of c))) c ∷ xs) (each_twice g h cs)
 

@@ -1,5 +1,5 @@
 -- A new row after the writes of its parts and bits.
-use Rattle.std.proofs.Common.{ℕ, zero, suc, ◌≡◌, ◌≢◌, ◌+◌, ◌<◌, ◌≤◌, ◌∙◌, ◌||◌, inl, inr, Bool, true, false, not, cond, nat_eq, sym, ap, refl, subst, List, [], ◌∷◌, ◌++◌, length, set, take, map, filter, reverse, arith}
+use Rattle.std.proofs.Common.{ℕ, suc, ◌≡◌, ◌≢◌, ◌+◌, ◌∙◌, ◌||◌, inl, inr, Bool, true, false, not, cond, nat_eq, sym, ap, refl, subst, List, [], ◌∷◌, ◌++◌, length, take, map, filter, reverse, arith}
 use Rattle.std.proofs.lemmas.Bool.{cases_eq, eq-eqb, ne_eqb, and_parts}
 use Rattle.std.proofs.lemmas.List.{append-nil, append_assoc, length-set, take_more_set, take_all, reverse-append, length-map}
 use Rattle.ent_types.specs.declared.entity.Entity.{Entity}
@@ -10,14 +10,16 @@ use Rattle.ent_types.specs.declared.type_info.TypeInfo.{TypeInfo}
 use Rattle.ent_types.specs.declared.value.Value.{Value}
 use Rattle.ent_types.specs.TypeLookups.{fields_at, is_shared_at, is_buffer_at}
 use Rattle.ent_types.specs.TypeSets.{has_type}
+use Rattle.ent_types.specs.Registries.{type_at}
+use Rattle.world_laws.proofs.Elements.{fits_by}
 use Rattle.world_model.specs.Fits.{Fits}
 use Rattle.world_model.specs.Members.{In, AreDistinct}
 use Rattle.world_model.specs.Part.{PartOf}
 use Rattle.world_model.specs.Row.{Row, Cell, cell_type}
 use Rattle.block_columns.specs.Types.{Content, with_value, with_off, with_values, new_cell}
 use Rattle.chunk_block.specs.Blocks.{BlockType, content_of, with_content, new_row, new_types, shape_of}
-use Rattle.world_rows.specs.Rows.{AreParts, values_at, own_types, cell_from, cells_from, row_from}
-use Rattle.world_rows.specs.Writes.{Write, Field, Switch, Elements, row_writes, field_writes, value_writes, bit_writes, type_writes, all_type_writes, buffer_write, buffer_writes, fill_writes}
+use Rattle.world_rows.specs.Rows.{AreParts, values_at, own_types, cell_from, row_from}
+use Rattle.world_rows.specs.Writes.{Write, Switch, row_writes, field_writes, value_writes, bit_writes, type_writes, all_type_writes, buffer_write, buffer_writes, fill_writes}
 use Rattle.world_rows.proofs.Effects.{type_of, change_of, effect_one, effect, effect_append, each_cell, writes_are}
 
 -- ---- writes of one type
@@ -163,11 +165,13 @@ fields_length [] (v ∷ vs) fits = absurd (cc fits)
 fields_length (f ∷ fs) [] fits = absurd (cc fits)
 fields_length (f ∷ fs) (v ∷ vs) fits = ap suc (fields_length fs vs (and_parts _ _ fits).1)
 
--- a type that isn't a buffer has a value for each field
+-- the values of a type that isn't a buffer fit its fields
+pub fits_plain : (registry : List TypeInfo) (t : ℕ) (vs : List Value) → is_buffer_at registry t ≡ false → Fits registry t vs → fits_fields (fields_at registry t) vs ≡ true
+fits_plain registry t vs plain fits = sym (fits_by false (type_at registry t) vs plain) ∙ fits
+
+-- so that there is one for each field
 pub values_length : (registry : List TypeInfo) (t : ℕ) (vs : List Value) → is_buffer_at registry t ≡ false → Fits registry t vs → length vs ≡ length (fields_at registry t)
-unfolding fits_type
-values_length registry t vs plain fits =
-    fields_length (fields_at registry t) vs (sym (ap (λ b. cond b (fits_elements MOST_ELEMENTS (fields_at registry t) vs) (fits_fields (fields_at registry t) vs)) plain) ∙ fits)
+values_length registry t vs plain fits = fields_length (fields_at registry t) vs (fits_plain registry t vs plain fits)
 
 new_length : (registry : List TypeInfo) (t : ℕ) → is_buffer_at registry t ≡ false → length (new_cell (shape_of registry t)).values ≡ length (fields_at registry t)
 new_length registry t plain =

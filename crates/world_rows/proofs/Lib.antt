@@ -10,3 +10,6 @@ pub mod PartsAre
 pub mod Apart
 pub mod Buffers
 pub mod Opened
+pub mod ByType
+pub mod Changes
+pub mod References

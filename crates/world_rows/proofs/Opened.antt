@@ -1,5 +1,5 @@
 -- The block that a row is about to enter.
-use Rattle.std.proofs.Common.{ℕ, ◌≡◌, ◌<◌, ◌∙◌, ◌&&◌, inl, inr, Bool, true, false, cond, nat_eq, nat_lt, sym, ap, refl, subst, List, [], ◌∷◌, ◌++◌, length, map, arith}
+use Rattle.std.proofs.Common.{ℕ, ◌≡◌, ◌<◌, ◌∙◌, ◌&&◌, inl, inr, true, nat_eq, nat_lt, sym, ap, refl, subst, List, [], ◌∷◌, ◌++◌, length, map}
 use Rattle.std.specs.Bool.{MatchBool}
 use Rattle.std.specs.Cmp.Lexicographic.{pointwise}
 use Rattle.std.proofs.lemmas.Bool.{eq-eqb, eqb-true, ne_eqb, ltb-true, and_parts}
@@ -9,11 +9,11 @@ use Rattle.world_model.specs.Members.{In, AreDistinct}
 use Rattle.world_model.specs.Part.{PartOf, same_part}
 use Rattle.world_model.specs.World.{mark_type}
 use Rattle.world_laws.proofs.Members.{map_in}
-use Rattle.chunk_block.specs.Blocks.{BlockState, new_mark, new_types}
+use Rattle.chunk_block.specs.Blocks.{new_mark, new_types}
 use Rattle.archetype_store.specs.Stores.{Numbered, StoreState, IsStore, OfNumber, OfBlock, Opens, has_room, registry_of, types_at}
 use Rattle.world_places.specs.Placing.{numbers_of}
 use Rattle.world_places.proofs.Entering.{Gets, Has, Grows, fresh, opens_gets, first_member}
-use Rattle.world_rows.specs.Entering.{AreWhole, IsOpen, IsWhole}
+use Rattle.world_rows.specs.Entering.{AreWhole, IsOpen}
 
 -- a block that is there is the one with its number
 pub of_member : (n : ℕ) (P : Numbered → Type 0) (bs : List Numbered) → AreDistinct (numbers_of bs) → (c : Numbered) → In c bs → c.number ≡ n → P c → OfNumber n P bs

@@ -1,25 +1,24 @@
 -- That parts which were read, or are given, make a row.
-use Rattle.std.proofs.Common.{ℕ, ◌≡◌, ◌≢◌, ◌⊎◌, ◌∙◌, ◌&&◌, inl, inr, Bool, true, false, not, cond, nat_eq, sym, ap, refl, subst, List, [], ◌∷◌, map, filter, Option, Some, None, find}
+use Rattle.std.proofs.Common.{ℕ, ◌≡◌, ◌≢◌, ◌⊎◌, ◌∙◌, ◌&&◌, inl, inr, Bool, true, false, not, cond, sym, ap, refl, subst, List, [], ◌∷◌, map, filter, Some}
 use Rattle.std.specs.Prelude.{unwrap_or, option_map}
-use Rattle.std.specs.Option.{option_or}
-use Rattle.std.proofs.lemmas.Bool.{cases_eq, eq-eqb, ne_eqb, and_parts}
+use Rattle.std.proofs.lemmas.Bool.{cases_eq, and_parts}
 use Rattle.ent_types.specs.declared.type_info.TypeInfo.{TypeInfo}
 use Rattle.ent_types.specs.declared.value.Value.{Value}
 use Rattle.ent_types.specs.TypeLookups.{is_shared_at, is_enableable_at}
 use Rattle.ent_types.specs.TypeSets.{has_type, with_type}
 use Rattle.world_model.specs.Fits.{Fits, IsKnown, IsFitting}
-use Rattle.world_model.specs.Members.{In, IsRising, AreDistinct}
-use Rattle.world_model.specs.Part.{PartOf, part_type, by_type}
+use Rattle.world_model.specs.Members.{In, AreDistinct}
+use Rattle.world_model.specs.Part.{PartOf, part_type}
 use Rattle.world_model.specs.Row.{Cell, cell_type}
-use Rattle.world_model.specs.Found.{Found, cell_at, values_of}
+use Rattle.world_model.specs.Found.{Found, part_at, values_of}
 use Rattle.world_model.specs.Lawful.{IsLawfulRow}
-use Rattle.world_laws.proofs.Members.{in_map, in_filter}
-use Rattle.world_laws.proofs.Types.{has_in, in_with}
-use Rattle.chunk_block.specs.Blocks.{content_at, is_off}
+use Rattle.world_laws.proofs.Members.{in_map}
+use Rattle.world_laws.proofs.Types.{has_in, in_with, at_own_type}
+use Rattle.chunk_block.specs.Blocks.{is_off}
 use Rattle.world_rows.specs.Rows.{AreParts, values_at, part_in}
 use Rattle.world_rows.specs.Types.{set_of}
-use Rattle.world_rows.proofs.Reading.{cell_own, cell_off, cell_values, shared_values, values_read, values_behind, values_first, content_absent}
-use Rattle.world_rows.proofs.Becoming.{set_is, values_distinct}
+use Rattle.world_rows.proofs.Reading.{shared_rising, cell_own, cell_off, cell_values, shared_values, values_read, values_behind, values_first, content_absent}
+use Rattle.world_rows.proofs.Becoming.{values_distinct}
 
 -- what passes is in what is filtered
 in_passed : (p : ℕ → Bool) (t : ℕ) (ts : List ℕ) → In t ts → p t ≡ true → In t (filter p ts)
@@ -33,13 +32,23 @@ in_passed p t (u ∷ us) (inr i) e = by (p u) (in_passed p t us i e)
 
 module _ (registry : List TypeInfo) (x : Found) (lawful : IsLawfulRow registry x) where
   -- what the row has of a type
-  has_part : (t : ℕ) → In t x.home.types → is_shared_at registry t ≡ true → (p : PartOf Value) × In p x.home.shared × (t ≡ part_type p)
+  pub has_part : (t : ℕ) → In t x.home.types → is_shared_at registry t ≡ true → (p : PartOf Value) × In p x.home.shared × (t ≡ part_type p)
   has_part t i shared = in_map part_type t x.home.shared (subst (In t) (sym lawful.home.shared) (in_passed (is_shared_at registry) t x.home.types i shared))
 
-  has_cell : (t : ℕ) → In t x.home.types → is_shared_at registry t ≡ false → (c : Cell) × In c x.row.cells × (t ≡ cell_type c)
+  pub has_cell : (t : ℕ) → In t x.home.types → is_shared_at registry t ≡ false → (c : Cell) × In c x.row.cells × (t ≡ cell_type c)
   has_cell t i own = in_map cell_type t x.row.cells (subst (In t) (sym lawful.cells.types_are) (in_passed (λ u. not (is_shared_at registry u)) t x.home.types i (ap not own)))
 
-  values_fit : (t : ℕ) → In t x.home.types → Fits registry t (unwrap_or (values_of t x) [])
+  -- the values of a shared type are there
+  pub part_there : (t : ℕ) → In t x.home.types → is_shared_at registry t ≡ true → (vs : List Value) × (part_at t x.home.shared ≡ Some vs)
+  part_there t i shared = from (has_part t i shared)
+    where
+      from : ((p : PartOf Value) × In p x.home.shared × (t ≡ part_type p)) → (vs : List Value) × (part_at t x.home.shared ≡ Some vs)
+      from (p, j, same) = (
+        p.values,
+        ap (λ u. part_at u x.home.shared) same ∙ ap (option_map (λ (q : PartOf Value). q.values)) (at_own_type part_type p x.home.shared (shared_rising registry x lawful) j),
+      )
+
+  pub values_fit : (t : ℕ) → In t x.home.types → Fits registry t (unwrap_or (values_of t x) [])
   values_fit t i = by (is_shared_at registry t) refl
     where
       by : (b : Bool) → is_shared_at registry t ≡ b → Fits registry t (unwrap_or (values_of t x) [])

@@ -1,25 +1,21 @@
 -- What is read of a row, by type.
-use Rattle.std.proofs.Common.{ℕ, ◌≡◌, ◌≢◌, ◌<◌, ◌∙◌, ◌&&◌, inl, inr, Bool, true, false, not, cond, nat_eq, sym, ap, refl, subst, List, [], ◌∷◌, map, filter, find, Option, Some, None, arith}
+use Rattle.std.proofs.Common.{ℕ, ◌≡◌, ◌≢◌, ◌<◌, ◌∙◌, inl, inr, Bool, true, false, not, cond, sym, ap, refl, subst, List, [], ◌∷◌, map, Some, None, arith}
 use Rattle.std.specs.Prelude.{option_map, unwrap_or}
 use Rattle.std.specs.Option.{option_or}
 use Rattle.std.proofs.lemmas.Bool.{cases_eq, eq-eqb, ne_eqb}
 use Rattle.ent_types.specs.declared.type_info.TypeInfo.{TypeInfo}
 use Rattle.ent_types.specs.declared.value.Value.{Value}
 use Rattle.ent_types.specs.TypeLookups.{is_shared_at}
-use Rattle.ent_types.specs.TypeSets.{has_type}
 use Rattle.world_model.specs.Members.{In, IsRising}
 use Rattle.world_model.specs.Part.{PartOf, part_type, at_type}
-use Rattle.world_model.specs.Row.{Row, Cell, cell_type}
-use Rattle.world_model.specs.World.{Home}
+use Rattle.world_model.specs.Row.{Cell, cell_type}
 use Rattle.world_model.specs.Found.{Found, cell_at, part_at, values_of}
 use Rattle.world_model.specs.Lawful.{IsLawfulRow}
-use Rattle.world_model.specs.Operations.{home_kept, cells_kept}
-use Rattle.world_laws.proofs.Members.{filter_passes, filter_swap, map_filter, map_in, in_filter}
+use Rattle.world_laws.proofs.Members.{filter_passes, map_in, in_filter}
 use Rattle.world_laws.proofs.Types.{filter_rising, at_own_type}
 use Rattle.block_columns.specs.Types.{Content}
 use Rattle.chunk_block.specs.Blocks.{content_of, content_at, is_off}
-use Rattle.archetype_store.specs.Stores.{shared_types}
-use Rattle.world_rows.specs.Rows.{values_at, own_types, cell_from, cells_from, part_from, shared_from, home_from, part_in}
+use Rattle.world_rows.specs.Rows.{values_at, cell_from, part_from, part_in}
 
 -- ---- cells and parts that are named by their types
 
@@ -44,7 +40,7 @@ pub values_first : (p : PartOf Value) (ps : List (PartOf Value)) → values_at p
 values_first p ps = ap (λ b. unwrap_or (option_map (λ (q : PartOf Value). q.values) (cond b (Some p) (at_type part_type p.type_id ps))) []) (eq-eqb p.type_id p.type_id refl)
 
 -- the content of a cell's type is that of the cell
-content_is : (c : Cell) (cells : List Cell) → IsRising (map cell_type cells) → In c cells → content_at c.type_id cells ≡ content_of c
+pub content_is : (c : Cell) (cells : List Cell) → IsRising (map cell_type cells) → In c cells → content_at c.type_id cells ≡ content_of c
 content_is c [] rising is = absurd is
 content_is c (d ∷ ds) rising (inl e) =
     ap (λ b. cond b (content_of d) (content_at c.type_id ds)) (eq-eqb d.type_id c.type_id (ap cell_type (sym e))) ∙ ap content_of (sym e)
@@ -62,7 +58,7 @@ module _ (registry : List TypeInfo) (x : Found) (lawful : IsLawfulRow registry x
   pub own_rising : IsRising (map cell_type x.row.cells)
   own_rising = subst IsRising (sym lawful.cells.types_are) (filter_rising (λ t. not (is_shared_at registry t)) x.home.types lawful.home.types)
 
-  shared_rising : IsRising (map part_type x.home.shared)
+  pub shared_rising : IsRising (map part_type x.home.shared)
   shared_rising = subst IsRising (sym lawful.home.shared) (filter_rising (is_shared_at registry) x.home.types lawful.home.types)
 
   pub cell_own : (c : Cell) → In c x.row.cells → is_shared_at registry c.type_id ≡ false
@@ -85,7 +81,7 @@ module _ (registry : List TypeInfo) (x : Found) (lawful : IsLawfulRow registry x
   pub cell_values : (c : Cell) → In c x.row.cells → values_of c.type_id x ≡ Some c.values
   cell_values c i = ap (λ o. option_or (option_map (λ (d : Cell). d.values) o) (part_at c.type_id x.home.shared)) (at_own_type cell_type c x.row.cells own_rising i)
 
-  no_cell : (t : ℕ) → is_shared_at registry t ≡ true → (cells : List Cell) → ((c : Cell) → In c cells → is_shared_at registry c.type_id ≡ false) → cell_at t cells ≡ None
+  pub no_cell : (t : ℕ) → is_shared_at registry t ≡ true → (cells : List Cell) → ((c : Cell) → In c cells → is_shared_at registry c.type_id ≡ false) → cell_at t cells ≡ None
   no_cell t is [] own = refl
   no_cell t is (c ∷ cs) own =
       ap (λ b. cond b (Some c) (cell_at t cs)) (ne_eqb c.type_id t (λ e. absurd (cc (sym (own c (inl refl)) ∙ ap (is_shared_at registry) e ∙ is)))) ∙ no_cell t is cs (λ d i. own d (inr i))

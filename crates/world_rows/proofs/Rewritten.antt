@@ -1,12 +1,12 @@
 -- A row that is written in its place.
-use Rattle.std.proofs.Common.{ℕ, ◌≡◌, ◌≢◌, ◌<◌, ◌∙◌, inl, inr, Bool, true, false, not, cond, nat_eq, sym, ap, refl, subst, List, [], ◌∷◌, length, set, map, get_or, arith, zero, suc}
+use Rattle.std.proofs.Common.{ℕ, ◌≡◌, ◌<◌, ◌∙◌, inl, inr, Bool, true, false, not, cond, nat_eq, sym, ap, refl, subst, List, [], ◌∷◌, length, set, map, get_or, arith, zero, suc}
 use Rattle.std.proofs.lemmas.Bool.{cases_eq, eq-eqb, ne_eqb}
 use Rattle.std.proofs.lemmas.List.{length-set, get_or-set_same}
 use Rattle.ent_types.specs.declared.type_info.TypeInfo.{TypeInfo}
 use Rattle.ent_types.specs.declared.value.Value.{Value}
 use Rattle.ent_types.specs.TypeLookups.{is_buffer_at}
 use Rattle.world_model.specs.Fits.{Fits}
-use Rattle.world_model.specs.Members.{In, IsRising, AreDistinct}
+use Rattle.world_model.specs.Members.{In, AreDistinct}
 use Rattle.world_model.specs.Row.{Row, Cell, cell_type}
 use Rattle.world_model.specs.Found.{Found}
 use Rattle.world_model.specs.Lawful.{IsLawfulRow}
@@ -41,7 +41,7 @@ written_in n k ws s = ap (written n k ws) (sym (ap (λ bs. record s { blocks = b
     written_on n k (w ∷ ws) f s =
         ap (λ (bs : List Numbered). written n k ws (record s { blocks = bs })) (block_twice n (block_write k w) f s.blocks) ∙ written_on n k ws (λ b. block_write k w (f b)) s
 
-set_same : (rows : List Row) (k : ℕ) → k < length rows → set rows k (row_in k rows) ≡ rows
+pub set_same : (rows : List Row) (k : ℕ) → k < length rows → set rows k (row_in k rows) ≡ rows
 set_same rows k below = set_own rows k below
   where
     set_own : (rows : List Row) (k : ℕ) → k < length rows → set rows k (get_or rows k no_row) ≡ rows
@@ -81,18 +81,23 @@ module _ (registry : List TypeInfo) (x : Found) (lawful : IsLawfulRow registry x
   distinct : AreDistinct (map cell_type x.row.cells)
   distinct = rising_distinct (map cell_type x.row.cells) (own_rising registry x lawful)
 
-  -- all elements of a buffer
-  pub buffer_put : (t : ℕ) (vs : List Value) → changed t (with_values vs) x.row ≡ record (x.row) { cells = values_with t (λ _. vs) x.row.cells }
-  buffer_put t vs =
+  -- the values of a type
+  pub content_put : (t : ℕ) (g : Content → Content) (h : List Value → List Value) → ((c : Content) → g c ≡ record c { values = h c.values })
+      → changed t g x.row ≡ record (x.row) { cells = values_with t h x.row.cells }
+  content_put t g h so =
       ap (λ (cells : List Cell). record (x.row) { cells = cells })
-      (one_changed t (with_values vs) x.row.cells distinct
-      ∙ put_each t (with_values vs) (λ (c : Cell). record c { values = cond (nat_eq c.type_id t) vs c.values }) x.row.cells (λ c i. by c (nat_eq t c.type_id) (nat_eq c.type_id t) (turn t c.type_id)))
+      (one_changed t g x.row.cells distinct
+      ∙ put_each t g (λ (c : Cell). record c { values = cond (nat_eq c.type_id t) (h c.values) c.values }) x.row.cells (λ c i. by c (nat_eq t c.type_id) (nat_eq c.type_id t) (turn t c.type_id)))
     where
-      by : (c : Cell) (p q : Bool) → p ≡ q → with_content (cond p (with_values vs (content_of c)) (content_of c)) c ≡ record c { values = cond q vs c.values }
-      by c true true e = refl
+      by : (c : Cell) (p q : Bool) → p ≡ q → with_content (cond p (g (content_of c)) (content_of c)) c ≡ record c { values = cond q (h c.values) c.values }
+      by c true true e = ap (λ d. with_content d c) (so (content_of c))
       by c false false e = refl
       by c true false e = absurd (cc e)
       by c false true e = absurd (cc e)
+
+  -- all elements of a buffer
+  pub buffer_put : (t : ℕ) (vs : List Value) → changed t (with_values vs) x.row ≡ record (x.row) { cells = values_with t (λ _. vs) x.row.cells }
+  buffer_put t vs = content_put t (with_values vs) (λ _. vs) (λ c. refl)
 
   -- a bit
   pub bit_put : (t : ℕ) (on : Bool) → changed t (with_off (not on)) x.row ≡ record (x.row) { cells = switched t on x.row.cells }

@@ -1,11 +1,10 @@
 -- Rows that are read from a store.
-use Rattle.std.specs.Prelude.{ℕ, ◌≡◌, ◌<◌, Bool, ◌&&◌, List, length, map}
+use Rattle.std.specs.Prelude.{ℕ, ◌≡◌, ◌<◌, ◌&&◌, List, length, map}
 use Rattle.ent_types.specs.declared.type_info.TypeInfo.{TypeInfo}
 use Rattle.ent_types.specs.declared.value.Value.{Value}
 use Rattle.ent_types.specs.TypeSets.{has_type}
 use Rattle.world_model.specs.Found.{Found}
 use Rattle.world_model.specs.Lawful.{IsLawfulRow}
-use Rattle.world_model.specs.Members.{In}
 use Rattle.world_model.specs.Part.{PartOf}
 use Rattle.chunk_block.specs.Blocks.{new_types, row_in, is_off}
 use Rattle.archetype_store.specs.Stores.{Numbered}

@@ -4,8 +4,7 @@ use Rattle.ent_types.specs.declared.entity.Entity.{Entity}
 use Rattle.ent_types.specs.declared.type_info.TypeInfo.{TypeInfo}
 use Rattle.ent_types.specs.declared.value.Value.{Value}
 use Rattle.ent_types.specs.TypeLookups.{is_cleanup_at, is_shared_at}
-use Rattle.ent_types.specs.TypeSets.{has_type, with_type, is_subset_of}
-use Rattle.world_model.specs.Members.{In}
+use Rattle.ent_types.specs.TypeSets.{has_type, with_type}
 use Rattle.world_model.specs.Part.{PartOf, with_typed}
 use Rattle.world_model.specs.Row.{Row, cell_type, cell_of}
 use Rattle.world_model.specs.World.{Home}

@@ -1,13 +1,12 @@
 -- Writes into one row.
-use Rattle.std.specs.Prelude.{ℕ, ◌≡◌, ◌+◌, ◌<◌, Bool, true, false, not, if◌then◌else◌, List, [], ◌∷◌, ◌++◌, length, map, filter, reverse, slice_set}
+use Rattle.std.specs.Prelude.{ℕ, ◌≡◌, ◌+◌, ◌<◌, Bool, true, if◌then◌else◌, List, [], ◌∷◌, ◌++◌, length, map, filter, reverse, slice_set}
 use Rattle.ent_types.specs.declared.type_info.TypeInfo.{TypeInfo}
 use Rattle.ent_types.specs.declared.value.Value.{Value}
 use Rattle.ent_types.specs.TypeLookups.{fields_at, is_shared_at, is_buffer_at}
 use Rattle.ent_types.specs.TypeSets.{has_type}
 use Rattle.world_model.specs.Part.{PartOf}
 use Rattle.world_model.specs.Row.{Row}
-use Rattle.block_columns.specs.Types.{with_value, with_off, with_values, TakesValue, TakesElements, IsEnableable, IsBuffer}
-use Rattle.block_columns.specs.declared.shape.TypeShape.{TypeShape}
+use Rattle.block_columns.specs.Types.{with_value, with_off, with_values, TakesValue, IsEnableable, IsBuffer}
 use Rattle.chunk_block.specs.Blocks.{BlockState, BlockType, OfType, changed, row_in}
 use Rattle.archetype_store.specs.Stores.{StoreState, OfBlock, with_block_in}
 use Rattle.world_rows.specs.Rows.{values_at}

@@ -1,0 +1,9 @@
+pub mod Lent
+pub mod Shown
+pub mod Columns
+pub mod Cells
+pub mod Returned
+pub mod Placed
+pub mod Counted
+pub mod Fitting
+pub mod Ordered
