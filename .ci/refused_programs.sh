@@ -7,7 +7,9 @@
 set -u
 cd "$(dirname "$0")/.." || exit 1
 root=$PWD
-readonly crates="system_version ent_types chunk_layout enable_bits buffer_store block_columns world_model chunk_block"
+readonly crates="system_version ent_types chunk_layout enable_bits buffer_store block_columns world_model chunk_block \
+block_laws world_laws shared_values archetype_store entity_table world_places world_rows world_loans expr_trees expr_eval \
+structural_ops"
 copy=$(mktemp -d) || exit 1
 trap 'rm -rf "$copy"' EXIT
 

@@ -1,20 +1,24 @@
 -- What operations give, by what rows do.
-use Rattle.std.proofs.Common.{ℕ, ◌≡◌, ◌∙◌, Bool, true, false, cond, nat_eq, sym, ap, refl, subst, map, List, Result, Ok, Err, Option, Some, None}
+use Rattle.std.proofs.Common.{ℕ, ◌≡◌, ◌∙◌, Bool, false, cond, nat_eq, sym, ap, refl, subst, map, List, [], Result, Ok, Err}
+use Rattle.std.proofs.lemmas.List.{append-nil}
 use Rattle.ent_types.specs.declared.entity.Entity.{Entity}
 use Rattle.ent_types.specs.declared.skip.Skip.TheVariants as skip
-use Rattle.ent_types.specs.declared.type_info.TypeInfo.{TypeInfo}
 use Rattle.ent_types.specs.declared.value.Value.{Value}
 use Rattle.ent_types.specs.Fitting.{null_entity}
 use Rattle.world_model.specs.Part.{PartOf, part_type}
-use Rattle.world_model.specs.Row.{Row, Cell}
-use Rattle.world_model.specs.World.{Home, World, capacity}
+use Rattle.world_model.specs.Row.{Cell}
+use Rattle.world_model.specs.World.{Home, capacity}
 use Rattle.world_model.specs.Found.{Found}
 use Rattle.world_model.specs.Ids.{room}
-use Rattle.world_model.specs.Operations.{Act, Instantiate, Outcome, Skips, Moves, Makes, Made, Done, apply, decide, decide_create, sight, home_of, cells_of, home_kept, cells_kept, is_copied}
+use Rattle.world_model.specs.Operations.{Instantiate, Outcome, Skips, Moves, Makes, Made, Done, apply, decide, decide_create, sight, home_of, cells_of, home_kept, cells_kept, is_copied}
 use Rattle.structural_ops.specs.declared.fault.OpFault.{OpFault}
 use Rattle.structural_ops.specs.declared.fault.OpFault.TheVariants as fault
-use Rattle.structural_ops.specs.Worlds.{WorldState, GivesAnswer, MovesTo, made, done}
+use Rattle.structural_ops.specs.Worlds.{WorldState, GivesAnswer, MovesTo, Stays, made, done}
 use Rattle.structural_ops.specs.Worlds.{Makes as MakesRow}
+
+-- nothing changed
+pub stays_self : (w : WorldState) → Stays w w
+stays_self w = record { world = refl; numbers = refl; archetypes = record { more = []; are = sym (append-nil w.archetypes) } }
 
 module _ (old new : WorldState) where
   abbrev cap : List ℕ → ℕ

@@ -1,23 +1,22 @@
 -- The row of an entity that is found.
-use Rattle.std.proofs.Common.{ℕ, ◌≡◌, ◌<◌, ◌∙◌, sym, ap, refl, subst, List, length, map, Option, Some, None, slice_get, arith}
+use Rattle.std.proofs.Common.{ℕ, ◌≡◌, ◌≤◌, ◌<◌, ◌∙◌, sym, ap, List, length, Some, slice_get}
 use Rattle.std.proofs.lemmas.Option.{slice_get_within, get_or_from_slice_get}
 use Rattle.ent_types.specs.declared.entity.Entity.{Entity}
-use Rattle.ent_types.specs.declared.type_info.TypeInfo.{TypeInfo}
 use Rattle.entity_table.specs.declared.table.Place.{Place}
 use Rattle.entity_table.specs.Table.{place_of}
 use Rattle.world_model.specs.Members.{In}
 use Rattle.world_model.specs.Row.{Row}
-use Rattle.world_model.specs.World.{World, mark_type, capacity}
+use Rattle.world_model.specs.World.{World, capacity}
 use Rattle.world_model.specs.Found.{Found, found, placed, is_of}
 use Rattle.world_model.specs.Lawful.{IsLawfulRow}
 use Rattle.world_laws.proofs.Members.{find_in, map_in}
 use Rattle.chunk_block.specs.Blocks.{no_row, row_in}
 use Rattle.archetype_store.specs.Stores.{Numbered, OfNumber}
-use Rattle.world_places.specs.Placing.{IsThere, world_blocks, world_block, world_of}
+use Rattle.world_places.specs.Placing.{IsThere, world_blocks, world_block}
 use Rattle.world_places.proofs.Looking.{there_is, has_of, had_of}
 use Rattle.world_rows.specs.Entering.{IsWhole}
 use Rattle.world_rows.specs.Reading.{CanRead, found_at}
-use Rattle.world_rows.proofs.CodeLawful.{code_rows, code_blocks}
+use Rattle.world_rows.proofs.CodeLawful.{code_rows, code_room, code_blocks}
 use Rattle.structural_ops.specs.Worlds.{IsConsistent, state_of}
 use Rattle.structural_ops.specs.declared.tables.Tables.{Tables}
 
@@ -58,6 +57,11 @@ module _ (w : Tables) (is : IsConsistent w) where
 
     pub can_read : CanRead w.registry p.row there.block
     can_read = record { there = row_there; columns = is.agrees.placed.whole there.block there.member; lawful = lawful_there }
+
+    -- a block has room for a row of its types
+    pub room_there : 1 ≤ capacity w.registry there.block.block.types
+    room_there =
+        code_room (capacity w.registry) world is.lawful (found_at p.row there.block) (find_in (is_of e) (found_at p.row there.block) (placed (world_blocks w.store.blocks)) found_there)
 
     -- what holds of the row's block holds of the block with its number, and the other way round
     pub of_block : (P : Numbered → Type 0) → P there.block → OfNumber p.block P w.store.blocks

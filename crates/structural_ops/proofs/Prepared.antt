@@ -1,7 +1,6 @@
 -- Buffers that were prepared, the last ones first.
 use Rattle.std.proofs.Common.{◌≡◌, ◌∙◌, ap, List, [], ◌∷◌, ◌++◌, map, reverse}
 use Rattle.std.proofs.lemmas.List.{map-append, reverse-append}
-use Rattle.world_rows.specs.Writes.{Write}
 use Rattle.structural_ops.specs.declared.buffers.Prepared.{Prepared}
 use Rattle.structural_ops.specs.Buffers.{prepared_write}
 

@@ -1,5 +1,5 @@
 -- Sets of types.
-use Rattle.std.proofs.Common.{ℕ, ◌≡◌, ◌+◌, ◌<◌, ◌≤◌, inl, inr, subst, sym, List, [], ◌∷◌, arith}
+use Rattle.std.proofs.Common.{ℕ, ◌+◌, ◌<◌, ◌≤◌, inl, inr, subst, sym, List, [], ◌∷◌, arith}
 use Rattle.ent_types.specs.declared.limits.TheConstants.{MOST_TYPES}
 use Rattle.ent_types.specs.TypeSets.{IsRisingFrom, IsRisingBelow}
 use Rattle.world_model.specs.Members.{In, IsRising}

@@ -1,4 +1,6 @@
 -- Why an operation changed nothing, by why a part of it was refused.
+use Rattle.buffer_store.specs.declared.fault.PushFault.{PushFault}
+use Rattle.buffer_store.specs.declared.fault.PushFault.TheVariants as push
 use Rattle.chunk_block.specs.declared.block.BlockFault.{BlockFault}
 use Rattle.chunk_block.specs.declared.block.BlockFault.TheVariants as block
 use Rattle.entity_table.specs.declared.table.TableFault.{TableFault}
@@ -14,3 +16,7 @@ of_block block.Memory = Memory
 abbrev pub of_table : TableFault → OpFault
 of_table table.Full = Skip skip.Full
 of_table table.Memory = Memory
+
+abbrev pub of_push : PushFault → OpFault
+of_push push.TooLong = Skip skip.TooLong
+of_push push.Memory = Memory

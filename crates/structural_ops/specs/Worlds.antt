@@ -1,10 +1,11 @@
 -- What contracts see of a world of the code.
-use Rattle.std.specs.Prelude.{ℕ, ◌≡◌, Bool, true, false, nat_eq, List, ◌++◌, Some, Result, Ok, Err}
+use Rattle.std.specs.Prelude.{ℕ, ◌≡◌, true, false, nat_eq, List, ◌++◌, Option, Some, option_map, Result, Ok, Err}
 use Rattle.std.specs.Option.{IfSome}
 use Rattle.ent_types.specs.declared.entity.Entity.{Entity}
 use Rattle.ent_types.specs.declared.skip.Skip.{Skip}
 use Rattle.ent_types.specs.declared.skip.Skip.TheVariants as skip
 use Rattle.world_model.specs.World.{Home, World, capacity}
+use Rattle.world_model.specs.Found.{found}
 use Rattle.world_model.specs.Row.{Row, Cell}
 use Rattle.world_model.specs.Ids.{room, next_id}
 use Rattle.world_model.specs.Operations.{Operation, Reply, Answer, Made, Done, Skipped, operate, moved_to, written, made as made_world}
@@ -14,12 +15,12 @@ use Rattle.entity_table.specs.declared.table.Place.{Place}
 use Rattle.entity_table.specs.Table.{place_of}
 use Rattle.chunk_block.specs.Blocks.{row_in}
 use Rattle.archetype_store.specs.Stores.{Numbered}
-use Rattle.world_places.specs.Placing.{IsPlaced, world_of, numbers_of}
+use Rattle.world_places.specs.Placing.{IsPlaced, world_of, numbers_of, number_in}
 use Rattle.structural_ops.specs.declared.fault.OpFault.{OpFault}
 use Rattle.structural_ops.specs.declared.fault.OpFault.TheVariants as fault
 use Rattle.structural_ops.specs.declared.tables.Tables.{Tables}
 
--- A world, with versions in the place of moments. `numbers` has the number of each block, in block order, and `archetypes` the types
+-- A world of the code: it has versions where the model has moments. `numbers` has the number of each block, in block order, and `archetypes` the types
 -- of each archetype by its id.
 pub record WorldState : Type 0 where
   pub world : World
@@ -56,9 +57,21 @@ pub record Stays (old new : WorldState) : Type 0 where
   pub numbers : new.numbers ≡ old.numbers
   pub archetypes : Grows old.archetypes new.archetypes
 
+-- the number of the block in which an entity is; none where it isn't alive
+abbrev pub number_of : WorldState → Entity → Option ℕ
+number_of w e = number_in w.world.blocks w.numbers e
+
+abbrev pub home_in : WorldState → Entity → Option Home
+home_in w e = option_map (λ x. x.home) (found e w.world.blocks)
+
+-- A number names its block as long as the block is there: an entity whose home stays is in the block of the same number.
+abbrev pub KeepsNumbers : WorldState → WorldState → Type 0
+KeepsNumbers old new = (e : Entity) → home_in new e ≡ home_in old e → number_of new e ≡ number_of old e
+
 -- the world of the answer, and more archetypes or as many
 pub record Becomes (old new : WorldState) (world : World) : Type 0 where
   pub world_is : new.world ≡ world
+  pub numbers : KeepsNumbers old new
   pub archetypes : Grows old.archetypes new.archetypes
 
 abbrev pub after : WorldState → Operation → Answer

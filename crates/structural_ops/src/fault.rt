@@ -1,4 +1,5 @@
 //! Why an operation changed nothing.
+use buffer_store::PushFault;
 use chunk_block::BlockFault;
 use ent_types::{Memory, Skip};
 use entity_table::TableFault;
@@ -49,6 +50,21 @@ impl From<TableFault> for OpFault {
         match cause {
             TableFault::Full => OpFault::Skip(Skip::Full),
             TableFault::Memory => OpFault::Memory,
+        }
+    }
+}
+
+/// An element past the most that a buffer has is skipped.
+impl From<PushFault> for OpFault {
+    ghost use Rattle.std.specs.Prelude.{◌≡◌};
+    ghost use Rattle.structural_ops.specs.Faults.{of_push};
+
+    ghost from_gives = { λ cause f. f ≡ of_push cause };
+
+    fn from(cause: PushFault) -> OpFault {
+        match cause {
+            PushFault::TooLong => OpFault::Skip(Skip::TooLong),
+            PushFault::Memory => OpFault::Memory,
         }
     }
 }

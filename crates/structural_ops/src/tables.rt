@@ -16,7 +16,7 @@ use crate::OpFault;
 use crate::enter::{NewRow, enter};
 use archetype_store::ArchetypeStore;
 use ent_types::{Entity, Part, Registry, SystemVersion, TypeSet};
-use entity_table::EntityTable;
+use entity_table::{EntityTable, Place};
 use std::alloc::Global;
 
 /// What a world is made of.
@@ -55,4 +55,43 @@ pub(crate) fn make(
     };
     let place = enter(w.alloc, &mut w.store, &w.registry, a, new, w.version)?;
     Ok(w.table.make(place))
+}
+
+/// Takes a row out of its block, and returns the entity whose row takes its place. That entity gets its place in the table.
+pub(crate) fn leave(
+    store: &mut ArchetypeStore,
+    table: &mut EntityTable,
+    place: Place,
+    version: SystemVersion,
+) -> Option<Entity>
+    requires there { OfBlock place.block (λ b. (place.row < length b.rows) × IsWhole b.columns) store.old.blocks }
+    requires alive { OfBlock place.block (λ b. IfSome (mover_in place.row b) (IsAlive table.old.table)) store.old.blocks }
+    ensures store { HasBlocks store.old store.new (left place.block place.row (with_block place.block (order_marked version.0) store.old.blocks)) }
+    ensures mover { OfBlock place.block (λ b. result ≡ mover_in place.row b) store.old.blocks }
+    ensures table { table.new.table ≡ with_mover result place table.old.table }
+{
+    store.mark_order(place.block, version);
+    let mover = store.leave(place.block, place.row);
+    if let Some(e) = mover {
+        table.put_place(e, place);
+    }
+    mover
+}
+
+/// Moves the row of an entity to another home. After a fault the world is as before, though an archetype may have been made.
+pub(crate) fn move_row(w: &mut Tables, place: Place, new: NewRow<'_>) -> Result<(), OpFault>
+    requires consistent { IsConsistent w.old }
+    requires there { place_of w.old.table.table new.entity ≡ Some place }
+    requires parts { AreParts w.old.registry new.types.now (map seen new.parts.now) new.off.now }
+    requires apart { OfNumber place.block (λ b. home_of b ≢ home_from w.old.registry new.types.now (map seen new.parts.now)) w.old.store.blocks }
+    ensures agrees { Agrees w.new }
+    ensures moves { MovesTo (state_of w.old) (state_of w.new) (home_from w.old.registry new.entry.types.now (map seen new.entry.parts.now))
+        (row_from w.old.registry new.entry.types.now (map seen new.entry.parts.now) new.entry.off.now new.entry.entity new.entry.dying) result }
+{
+    let a = w.store.archetype_of(&w.registry, new.types)?;
+    w.store.is_sound();
+    let to = enter(w.alloc, &mut w.store, &w.registry, a, new, w.version)?;
+    leave(&mut w.store, &mut w.table, place, w.version);
+    w.table.put_place(new.entity, to);
+    Ok(())
 }

@@ -5,14 +5,14 @@ ghost use Rattle.world_model.specs.World.{empty_world};
 ghost use Rattle.world_model.specs.Found.{found, alive_count};
 ghost use Rattle.world_model.specs.Ids.{room};
 ghost use Rattle.world_model.specs.Lawful.{Suits};
-ghost use Rattle.world_model.specs.Operations.{Create};
+ghost use Rattle.world_model.specs.Operations.{Add, Create, Destroy, Instantiate, On, Remove, SetShared};
 ghost use Rattle.world_model.specs.Reads.{types_of as types_in};
-ghost use Rattle.structural_ops.specs.Worlds.{Gives, made};
+ghost use Rattle.structural_ops.specs.Worlds.{Gives, done, made};
 
 use crate::tables::Tables;
 use crate::{OpFault, operations};
 use archetype_store::ArchetypeStore;
-use ent_types::{Entity, Part, Registry, SystemVersion, TypeSet};
+use ent_types::{Entity, Part, Registry, SystemVersion, TypeId, TypeSet};
 use entity_table::EntityTable;
 use std::alloc::Global;
 use std::marker::Model;
@@ -29,7 +29,7 @@ use std::marker::Model;
 /// ```
 #[derive(Drop)]
 pub struct World {
-    tables: Tables,
+    pub(crate) tables: Tables,
 }
 
 impl Model for World {
@@ -73,6 +73,60 @@ impl World {
         ensures { Gives self.old self.new (Create (map seen parts.now)) (made result) }
     {
         operations::create(&mut self.tables, parts)
+    }
+
+    /// Makes a copy of an entity, with the same values and with the same types disabled, but without its cleanup types and without
+    /// `Prefab`. The copy of a dying entity isn't dying. It is skipped as `NoEntity` if the entity isn't alive, else as `Full` if no
+    /// more entities can be made.
+    ///
+    /// The values are read before they are written, so it takes memory for the row twice, and for a block if none has room.
+    pub fn instantiate(&mut self, e: Entity) -> Result<Entity, OpFault>
+        ensures { Gives self.old self.new (On e Instantiate) (made result) }
+    {
+        operations::instantiate(&mut self.tables, e)
+    }
+
+    /// Destroys an entity. Without a cleanup type it ends, and no later entity gets its name. With some it keeps these alone, and is
+    /// alive and dying until the last of them is removed. It is skipped as `NoEntity` if the entity isn't alive.
+    ///
+    /// Memory is taken only if it keeps some of its types and loses others, since its row then moves to another block.
+    pub fn destroy(&mut self, e: Entity) -> Result<(), OpFault>
+        ensures { Gives self.old self.new (On e Destroy) (done result) }
+    {
+        operations::destroy(&mut self.tables, e)
+    }
+
+    /// Adds a type with its values, enabled. If the entity has the type, its values are replaced, and whether it is disabled stays.
+    /// It is skipped as `NoEntity` if the entity isn't alive, else as `TooLarge` if it lacks the type and no row with one type more
+    /// fits into a block.
+    ///
+    /// The row moves to another block, unless it has the type and the type isn't shared, or the shared values are equal. A row that
+    /// moves costs a copy of all its values, which takes memory; new elements of a buffer take memory too.
+    pub fn add(&mut self, e: Entity, part: &Part) -> Result<(), OpFault>
+        requires { Suits self.old.world.registry (On e (Add (seen part.now))) }
+        ensures { Gives self.old self.new (On e (Add (seen part.now))) (done result) }
+    {
+        operations::add(&mut self.tables, e, part)
+    }
+
+    /// Removes a type. If the entity lacks it nothing changes. A dying entity ends with its last type; any other can be without
+    /// types. It is skipped as `NoEntity` if the entity isn't alive.
+    ///
+    /// The row moves to another block, which costs a copy of the values that stay and takes memory.
+    pub fn remove(&mut self, e: Entity, ty: TypeId) -> Result<(), OpFault>
+        requires { Suits self.old.world.registry (On e (Remove ty.0)) }
+        ensures { Gives self.old self.new (On e (Remove ty.0)) (done result) }
+    {
+        operations::remove(&mut self.tables, e, ty)
+    }
+
+    /// Replaces the values of a shared type. The row moves to a block with these values, with the copy and the memory that this
+    /// takes; equal values change nothing. It is skipped as `NoEntity` if the entity isn't alive, else as `NoComponent` if it lacks the type.
+    pub fn set_shared(&mut self, e: Entity, part: &Part) -> Result<(), OpFault>
+        requires { Suits self.old.world.registry (On e (SetShared (seen part.now))) }
+        ensures { Gives self.old self.new (On e (SetShared (seen part.now))) (done result) }
+    {
+        operations::set_shared(&mut self.tables, e, part)
     }
 
     /// Says whether an entity is alive, dying or not.

@@ -1,6 +1,6 @@
-use Rattle.std.proofs.Common.{ap, sym, subst, length, map, reverse, ◌++◌, ◌∷◌, [], ◌∙◌, arith}
+use Rattle.std.proofs.Common.{ap, sym, subst, length, map, reverse, ◌∷◌, [], arith}
 use Rattle.std.proofs.lemmas.List.{length-append}
-use Rattle.world_rows.specs.Writes.{CanWrite, written}
+use Rattle.world_rows.specs.Writes.{CanWrite}
 use Rattle.world_rows.proofs.Composed.{can_first, can_rest}
 use Rattle.structural_ops.specs.Buffers.{prepared_write}
 use Rattle.structural_ops.proofs.Prepared.{last_first}

@@ -1,4 +1,4 @@
-use Rattle.std.proofs.Common.{◌≡◌, ◌*◌, ◌/◌, ◌≤◌, length, ap, sym, subst}
+use Rattle.std.proofs.Common.{◌≡◌, ◌*◌, ◌/◌, ◌≤◌, length, sym, subst}
 use Rattle.ent_types.specs.declared.limits.TheConstants.{MOST_ELEMENTS}
 use Rattle.chunk_block.proofs.New.{width_at}
 use Rattle.world_rows.proofs.Buffers.{few_elements, whole_elements}

@@ -1,4 +1,4 @@
-use Rattle.std.proofs.Common.{ℕ, ◌≡◌, ◌≤◌, ◌<◌, ◌∙◌, refl, ap, sym, subst, map, reverse, List, length}
+use Rattle.std.proofs.Common.{◌≡◌, ◌<◌, ◌∙◌, ap, sym, subst, map, reverse, length}
 use Rattle.std.specs.Prelude.{⊤}
 use Rattle.world_model.specs.Members.{AreDistinct}
 use Rattle.world_model.specs.Part.{part_of as seen}

@@ -1,12 +1,10 @@
-use Rattle.std.proofs.Common.{ℕ, [], ◌≡◌, ◌∙◌, ap, sym, subst, map, List, Result, Ok, Err, IfOk}
+use Rattle.std.proofs.Common.{ℕ, [], ◌∙◌, ap, sym, map, List, Result, Ok, Err, IfOk}
 use Rattle.std.specs.Prelude.{unwrap_or}
 use Rattle.ent_types.specs.declared.memory.Memory.{Memory}
 use Rattle.ent_types.specs.declared.value.Part.{Part}
-use Rattle.ent_types.specs.declared.value.Value.{Value}
-use Rattle.world_model.specs.Part.{PartOf, part_type, part_of as seen}
+use Rattle.world_model.specs.Part.{part_type, part_of as seen}
 use Rattle.archetype_store.specs.Stores.{OfBlock, Opens, shared_types}
 use Rattle.world_rows.specs.Entering.{IsOpen}
-use Rattle.world_rows.specs.Rows.{shared_from}
 use Rattle.world_rows.proofs.Opened.{opened_is}
 use Rattle.structural_ops.proofs.Shared.{shared_are, seen_types}
 use Rattle.structural_ops.proofs.enter.open_block.Goals as goal

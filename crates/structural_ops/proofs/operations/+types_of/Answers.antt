@@ -1,5 +1,4 @@
-use Rattle.std.proofs.Common.{ℕ, ◌<◌, inl, inr, refl, ap, sym, subst, map, List, length, arith}
-use Rattle.ent_types.specs.declared.limits.TheConstants.{MOST_TYPES}
+use Rattle.std.proofs.Common.{ℕ, inl, inr, refl, ap, sym, subst, map, List, length, arith}
 use Rattle.ent_types.specs.declared.value.Part.{Part}
 use Rattle.world_model.specs.Members.{In}
 use Rattle.world_model.specs.Part.{part_type, part_of as seen}

@@ -1,25 +1,23 @@
-use Rattle.std.proofs.Common.{ℕ, ◌≡◌, ◌≤◌, ◌<◌, ◌∙◌, false, nat_eq, refl, ap, sym, subst, map, List, [], length, Some, None, arith}
+use Rattle.std.proofs.Common.{◌≡◌, ◌≤◌, ◌<◌, ◌∙◌, false, refl, ap, sym, subst, map, List, length, Some, None, arith}
 use Rattle.std.proofs.lemmas.Bool.{ne_eqb}
-use Rattle.ent_types.specs.declared.entity.Entity.{Entity}
 use Rattle.entity_table.specs.Table.{Table, Spared, Rebinds, place_of, given_by, with_made, room as table_room}
 use Rattle.world_model.specs.Ids.{room}
 use Rattle.world_model.specs.Part.{part_of as seen}
-use Rattle.world_model.specs.World.{World, capacity}
+use Rattle.world_model.specs.World.{capacity}
 use Rattle.world_model.specs.Lawful.{IsSound}
 use Rattle.world_model.specs.Operations.{made as made_world}
-use Rattle.archetype_store.specs.Stores.{Numbered, StoreState}
-use Rattle.world_places.specs.Placing.{IsPlaced, world_of, numbers_of}
+use Rattle.archetype_store.specs.Stores.{Numbered}
+use Rattle.world_places.specs.Placing.{IsPlaced, world_of}
 use Rattle.world_places.proofs.Looking.{few_blocks}
 use Rattle.world_places.proofs.Worlds.{room_is}
 use Rattle.world_rows.specs.Entering.{AreWhole, Enters}
 use Rattle.world_rows.specs.Rows.{row_from, shared_from, cells_from, home_from}
 use Rattle.world_rows.proofs.CodeLawful.{code_sound, code_alive}
 use Rattle.structural_ops.specs.Worlds.{state_of}
-use Rattle.world_model.specs.Row.{Row}
 use Rattle.std.specs.Option.{IfSome}
 use Rattle.structural_ops.proofs.After.{opened_keeps, grown}
 use Rattle.structural_ops.proofs.Looked.{block_whole}
-use Rattle.structural_ops.proofs.Entered.{made_is_placed, made_is}
+use Rattle.structural_ops.proofs.Entered.{made_is_placed, made_is, made_keeps}
 use Rattle.structural_ops.proofs.tables.make.Goals as goal
 
 pub enter-requires-clause-few : goal.enter-requires-clause-few
@@ -49,11 +47,10 @@ returns-clause-agrees c =
     subst (λ u. Rebinds t u (given_by t).entity (Some p)) c.make.ensures.table (subst (λ e. Rebinds t c.make.new.self.table e (Some p)) c.make.ensures.value c.make.ensures.map) in
     let sound : IsSound (world_of registry c.args.w.now.store.blocks t now) =
     subst (λ u. IsSound (world_of registry c.args.w.now.store.blocks u now)) (sym same) (code_sound (capacity registry) (state_of c.args.w.now).world c.requires.consistent.lawful) in
-    let row : Row = row_from registry c.args.types.now parts c.args.off.now (given_by t).entity false in
     let keeps = opened_keeps c.archetype_of.new.self enters.opened c.in_ok-a.a (shared_from registry c.args.types.now parts) p.block enters.opens in
     record {
       placed = subst (IsPlaced registry c.enter.new.store.blocks) (sym c.make.ensures.table)
-          (made_is_placed registry c.args.w.now.store c.archetype_of.new.self c.enter.new.store t c.in_ok-a.a now c.args.types.now (shared_from registry c.args.types.now parts) row p placed c.is_sound.ensures c.in_ok-a.ensures.ok enters refl fresh rebinds sound);
+          (made_is_placed placed c.is_sound.ensures c.in_ok-a.ensures.ok enters refl fresh rebinds sound);
       registered = subst (λ o. IfSome o (λ r. r ≡ registry)) (sym (enters.blocks.registry ∙ keeps.0 ∙ c.in_ok-a.ensures.ok.registry_is)) refl;
     }
 
@@ -75,7 +72,6 @@ returns-clause-made c =
     subst (λ u. Rebinds t u (given_by t).entity (Some p)) c.make.ensures.table (subst (λ e. Rebinds t c.make.new.self.table e (Some p)) c.make.ensures.value c.make.ensures.map) in
     let sound : IsSound (world_of registry c.args.w.now.store.blocks t now) =
     subst (λ u. IsSound (world_of registry c.args.w.now.store.blocks u now)) (sym same) (code_sound (capacity registry) (state_of c.args.w.now).world c.requires.consistent.lawful) in
-    let row : Row = row_from registry c.args.types.now parts c.args.off.now (given_by t).entity false in
     let keeps = opened_keeps c.archetype_of.new.self enters.opened c.in_ok-a.a (shared_from registry c.args.types.now parts) p.block enters.opens in
     let fit : 0 < capacity registry c.args.types.now = c.in_ok-a.ensures.ok.fit in
     let some : 1 ≤ table_room t0 = c.in_ok-reserve.ensures.0 in (
@@ -86,8 +82,9 @@ returns-clause-made c =
           ne_eqb (room (state_of c.args.w.now).world) 0 (λ e. omega (arith, some, e, room_is c.requires.consistent.agrees.placed now)),
           record {
             world_is = ap (λ u. world_of registry c.enter.new.store.blocks u now) c.make.ensures.table
-                ∙ made_is registry c.args.w.now.store c.archetype_of.new.self c.enter.new.store t c.in_ok-a.a now c.args.types.now (shared_from registry c.args.types.now parts) row p placed c.is_sound.ensures c.in_ok-a.ensures.ok enters refl fresh rebinds sound
+                ∙ made_is placed c.is_sound.ensures c.in_ok-a.ensures.ok enters refl fresh rebinds sound
                 ∙ ap (λ u. made_world (capacity registry) (home_from registry c.args.types.now parts) (cells_from registry c.args.types.now parts c.args.off.now) (world_of registry c.args.w.now.store.blocks u now)) same;
+            numbers = made_keeps placed c.is_sound.ensures c.in_ok-a.ensures.ok enters refl fresh rebinds sound;
             archetypes = grown c.args.types.now c.args.w.now.store.archetypes c.archetype_of.new.self.archetypes c.enter.new.store.archetypes c.in_ok-a.ensures.ok.archetypes (enters.blocks.archetypes ∙ keeps.1);
           },
         ),

@@ -1,4 +1,4 @@
-use Rattle.std.proofs.Common.{◌+◌, ◌∷◌, length, ap, sym, subst, arith}
+use Rattle.std.proofs.Common.{◌+◌, length, ap, sym, subst, arith}
 use Rattle.world_rows.specs.Writes.{CanWrite, Field, field_writes}
 use Rattle.world_rows.proofs.Composed.{can_first, can_rest}
 use Rattle.structural_ops.proofs.writes.+write_fields.Goals as goal

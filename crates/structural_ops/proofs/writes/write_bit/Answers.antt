@@ -1,4 +1,4 @@
-use Rattle.std.proofs.Common.{true, false, cond, [], ◌∷◌, sym, subst}
+use Rattle.std.proofs.Common.{true, cond, [], ◌∷◌, sym, subst}
 use Rattle.ent_types.specs.TypeSets.{has_type}
 use Rattle.world_rows.specs.Writes.{CanWrite, Switch}
 use Rattle.world_rows.proofs.Composed.{can_first}

@@ -1,5 +1,4 @@
-use Rattle.std.proofs.Common.{ℕ, ◌≡◌, ◌<◌, ◌≤◌, ◌∙◌, inl, inr, ap, refl, sym, subst, List, map, arith}
-use Rattle.ent_types.specs.declared.limits.TheConstants.{MOST_TYPES}
+use Rattle.std.proofs.Common.{◌≡◌, ◌∙◌, inl, inr, ap, refl, sym, subst, map}
 use Rattle.world_model.specs.Members.{In}
 use Rattle.world_model.specs.Part.{part_of as seen}
 use Rattle.world_rows.specs.Writes.{CanWrite, written, value_writes, bit_writes, all_type_writes}

@@ -1,4 +1,4 @@
-use Rattle.std.proofs.Common.{false, cond, [], sym, ap, subst, map, length, arith}
+use Rattle.std.proofs.Common.{cond, [], sym, ap, subst, map, length, arith}
 use Rattle.ent_types.specs.TypeLookups.{is_buffer_at}
 use Rattle.world_model.specs.Part.{part_of as seen}
 use Rattle.world_rows.specs.Rows.{values_at}

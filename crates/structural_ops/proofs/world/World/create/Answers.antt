@@ -1,4 +1,4 @@
-use Rattle.std.proofs.Common.{ap, sym, subst, map}
+use Rattle.std.proofs.Common.{sym, subst, map}
 use Rattle.world_model.specs.Lawful.{Suits}
 use Rattle.world_model.specs.Operations.{Create}
 use Rattle.world_model.specs.Part.{part_of as seen}

@@ -1,9 +1,8 @@
-use Rattle.std.proofs.Common.{arith}
 use Rattle.world_places.proofs.Empty.{empty_placed}
 use Rattle.structural_ops.proofs.After.{empty_code}
 use Rattle.structural_ops.specs.Worlds.{IsConsistent}
 use Rattle.structural_ops.specs.declared.tables.Tables.{Tables}
-use Rattle.std.proofs.Common.{subst, sym, None, [], ap}
+use Rattle.std.proofs.Common.{subst, sym, None, []}
 use Rattle.archetype_store.specs.Stores.{StoreState}
 use Rattle.entity_table.specs.Table.{Spared, empty_table}
 use Rattle.structural_ops.proofs.world.World.new.Goals as goal

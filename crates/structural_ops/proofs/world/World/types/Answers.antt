@@ -1,10 +1,9 @@
-use Rattle.std.proofs.Common.{◌≡◌, ◌∙◌, ap, sym, subst, refl, Some, None}
+use Rattle.std.proofs.Common.{◌≡◌, ◌∙◌, ap, sym, Some}
 use Rattle.std.specs.Prelude.{⊤, option_map}
 use Rattle.world_model.specs.Found.{Found, found}
-use Rattle.world_model.specs.World.{World}
 use Rattle.world_places.proofs.Looking.{none_is}
 use Rattle.structural_ops.specs.Worlds.{WorldState}
-use Rattle.structural_ops.proofs.Looked.{there, found_there, of_block, of_number}
+use Rattle.structural_ops.proofs.Looked.{found_there, of_block, of_number}
 use Rattle.structural_ops.proofs.world.World.types.Goals as goal
 
 pub returns-in_err-place : goal.returns-in_err-place
