@@ -1,0 +1,15 @@
+pub mod Off
+pub mod RowMasks
+pub mod Cuts
+pub mod Freshness
+pub mod ByNumber
+pub mod SharedParts
+pub mod Archetypes
+pub mod Grouped
+pub mod Ordered
+pub mod Walks
+pub mod Visited
+pub mod Selected
+pub mod Ready
+pub mod Numbered
+pub mod Alike
