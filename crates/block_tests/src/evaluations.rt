@@ -223,6 +223,13 @@ fn nests(alloc: Global) -> Result<bool, Fail> {
     Ok(has_values(&pick, [-6442450945, -9223372036854775808, 15, 1]))
 }
 
+/// A comparison with an equal number, and the rows' own entities.
+fn compares_numbers(alloc: Global) -> Result<bool, Fail> {
+    let less = binary(alloc, BinaryOp::Less, own(X), Expr::Number(5))?;
+    let index = Expr::Variable(Variable::Index);
+    Ok(has_values(&less, [1, 1, 0, 0]) & has_values(&index, [0, 1, 2, 3]))
+}
+
 /// References, and which of them are equal.
 fn compares_references() -> bool {
     let target = RefExpr::Own {
@@ -240,6 +247,7 @@ fn compares_references() -> bool {
 fn expressions_over_all_kinds_of_columns(rt: HostRuntime) -> Result<(), Fail> {
     assert!(rt; adds_columns(rt.alloc())?);
     assert!(rt; nests(rt.alloc())?);
+    assert!(rt; compares_numbers(rt.alloc())?);
     assert!(rt; compares_references());
     Ok(())
 }

@@ -100,6 +100,7 @@ fn write_place(loan: &mut Loan) -> bool
     ensures { (b : BlockState) → IsLoanOf b loan.old → IsLoanOf b loan.new }
 {
     let is_stored = store(loan, PLACE, X, &[4294967297, 2, 3], &Mask::first(3))
+        & store(loan, PLACE, X, &[5, 6, 7], &second_row())
         & store(loan, PLACE, TOTAL, &[10, 20, 30], &second_row());
     is_stored & refer(loan, PLACE, TARGET) & switch_off(loan, 2, PLACE)
 }
@@ -183,7 +184,7 @@ fn has_others(block: &Block, row: u32, count: u32, enabled: bool) -> bool {
 /// `true` if the block has what was written.
 fn has_written(block: &Block) -> bool {
     let place = has_place(block, 0, 1, 0, true)
-        & has_place(block, 1, 2, 20, true)
+        & has_place(block, 1, 6, 20, true)
         & has_place(block, 2, 3, 0, false);
     place
         & has_others(block, 0, 0, false)
@@ -224,7 +225,7 @@ fn crosses(alloc: Global) -> Result<bool, Fail> {
     let mut one = filled(alloc, 3)?;
     let mut other = filled(alloc, 3)?;
     let is_done = cross(&mut one, &mut other);
-    Ok(is_done & has_place(&one, 1, 2, 20, true) & has_place(&other, 2, 3, 0, false))
+    Ok(is_done & has_place(&one, 1, 6, 20, true) & has_place(&other, 2, 3, 0, false))
 }
 
 #[test]

@@ -53,6 +53,18 @@ fn stands_for(alloc: Global, table: &SharedTable, id: SharedId, numbers: &[i64])
     }
 }
 
+fn is_found(table: &SharedTable, values: &Values, wanted: Option<SharedId>) -> bool {
+    table.find(TypeId(3), values) == Ok(wanted)
+}
+
+/// `true` if these numbers of type 3 have this id, or none.
+fn finds(alloc: Global, table: &SharedTable, numbers: &[i64], wanted: Option<SharedId>) -> bool {
+    match list_of(alloc, numbers) {
+        Ok(values) => is_found(table, &values, wanted),
+        Err(_) => false,
+    }
+}
+
 fn are_equal(table: &SharedTable, a: SharedId, b: SharedId) -> bool {
     table.holds(a) > 0 && table.holds(b) > 0 && table.are_equal(a, b)
 }
@@ -108,9 +120,11 @@ fn is_freed_at_last(alloc: Global, table: &mut SharedTable) -> bool {
     match intern(alloc, table, 3, &[1]) {
         Ok(id) => {
             gets(alloc, table, &[1], id, 2)
+                & finds(alloc, table, &[1], Some(id))
                 & releases(table, id, 1)
                 & stands_for(alloc, table, id, &[1])
                 & releases(table, id, 0)
+                & finds(alloc, table, &[1], None)
         }
         Err(_) => false,
     }
