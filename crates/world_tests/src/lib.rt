@@ -2,4 +2,10 @@
 #![tactic(auto)]
 
 #[cfg(test)]
+mod changes;
+#[cfg(test)]
 mod entities;
+#[cfg(test)]
+mod fixtures;
+#[cfg(test)]
+mod rows;
