@@ -1,0 +1,8 @@
+-- What contracts see of a chain.
+use Rattle.std.specs.Prelude.{ℕ, List}
+use Rattle.command_record.specs.declared.chain.Entry.{Entry}
+
+-- the number of the item, and what it recorded, in order
+pub record ChainState : Type 0 where
+  pub item : ℕ
+  pub entries : List Entry
