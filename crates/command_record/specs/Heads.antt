@@ -20,16 +20,22 @@ entry_from item parts values h = record {
   command = command_from h.act (within parts h.parts) (within values h.values);
 }
 
-abbrev pub chain_of : Inside → ChainState
-chain_of c = record { item = c.item; entries = map (entry_from c.item c.parts.items c.values.items) c.heads.items }
+abbrev pub entries_from : ℕ → List PartHead → List CmdValue → List Head → List Entry
+entries_from item parts values heads = map (entry_from item parts values) heads
 
--- what a head names is there: a span of the parts, and a span of the values, with the values of these parts
-pub record IsThere (parts : List PartHead) (values : List CmdValue) (h : Head) : Type 0 where
-  pub parts : h.parts.start ≤ h.parts.end
-  pub parts_end : h.parts.end ≤ length parts
-  pub values : h.values.start ≤ h.values.end
-  pub values_end : h.values.end ≤ length values
-  pub counts : count_in (within parts h.parts) ≤ length (within values h.values)
+abbrev pub chain_of : Inside → ChainState
+chain_of c = record { item = c.item; entries = entries_from c.item c.parts.items c.values.items c.heads.items }
+
+-- the span lies within a list of this length
+pub record Fits (span : Span) (length_of : ℕ) : Type 0 where
+  pub ordered : span.start ≤ span.end
+  pub ends : span.end ≤ length_of
+
+-- what a head names is there: its part heads, and as many values as they count
+pub record IsThere (part_heads : List PartHead) (all_values : List CmdValue) (h : Head) : Type 0 where
+  pub parts : Fits h.parts (length part_heads)
+  pub values : Fits h.values (length all_values)
+  pub counts : count_in (within part_heads h.parts) ≤ length (within all_values h.values)
 
 -- what a head names lies before what a later head names
 pub record IsBefore (earlier later : Head) : Type 0 where
@@ -37,7 +43,10 @@ pub record IsBefore (earlier later : Head) : Type 0 where
   pub values : earlier.values.end ≤ later.values.start
 
 -- what every chain keeps
-pub record IsKept (c : Inside) : Type 0 where
-  pub there : All (IsThere c.parts.items c.values.items) c.heads.items
-  pub rising : AllPairs IsBefore c.heads.items
-  pub few : length c.heads.items ≤ MOST_ENTRIES
+pub record AreKept (parts : List PartHead) (values : List CmdValue) (heads : List Head) : Type 0 where
+  pub there : All (IsThere parts values) heads
+  pub rising : AllPairs IsBefore heads
+  pub few : length heads ≤ MOST_ENTRIES
+
+abbrev pub IsKept : Inside → Type 0
+IsKept c = AreKept c.parts.items c.values.items c.heads.items

@@ -1,6 +1,6 @@
 //! Chains: what one item records for one point, in order.
-ghost use Rattle.std.specs.Prelude.{◌≡◌, ◌≤◌, ◌<◌, [], ◌∷◌, ◌++◌, length, take, slice_get, Some, IfOk, OnOk, OnErr, All};
-ghost use Rattle.command_record.specs.Chains.{ChainState};
+ghost use Rattle.std.specs.Prelude.{◌≡◌, ◌≤◌, ◌<◌, [], ◌∷◌, ◌++◌, length, take, slice_get, Some, IfOk, OnOk, OnErr};
+ghost use Rattle.command_record.specs.Chains.{AreOwn};
 
 use crate::command::{CmdValue, Command};
 use crate::kept::{Act, PartHead, Span, act, keep, make_command};
@@ -84,7 +84,7 @@ impl Chain {
     /// Returns the number of the item, which each entry has.
     pub fn item(&self) -> u32
         ensures value { result ≡ self.now.item }
-        ensures entries { All (λ e. e.item ≡ result) self.now.entries }
+        ensures entries { AreOwn self.now }
     {
         self.item
     }
