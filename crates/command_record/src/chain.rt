@@ -1,6 +1,6 @@
 //! Chains: what one item records for one point, in order.
-ghost use Rattle.std.specs.Prelude.{◌≡◌, ◌≤◌, ◌<◌, [], ◌∷◌, ◌++◌, length, take, slice_get, Some, IfOk, OnOk, OnErr};
-ghost use Rattle.command_record.specs.Chains.{AreOwn};
+ghost use Rattle.std.specs.Prelude.{◌≡◌, ◌≤◌, ◌<◌, [], length, take, slice_get, Some, IfOk, OnOk, OnErr};
+ghost use Rattle.command_record.specs.Chains.{AreOwn, with_entry};
 
 use crate::command::{CmdValue, Command};
 use crate::kept::{Act, PartHead, Span, act, keep, make_command};
@@ -103,10 +103,8 @@ impl Chain {
     /// The command is copied, so the caller can change its values for the next row.
     pub fn add(&mut self, key: i32, row: u32, number: u32, command: &Command) -> Result<(), Memory>
         requires { length self.old.entries < MOST_ENTRIES }
-        ensures item { self.new.item ≡ self.old.item }
-        ensures ok { OnOk result (self.new.entries ≡ self.old.entries
-            ++ record { key = key; item = self.old.item; row = row; number = number; command = command.now } ∷ []) }
-        ensures err { OnErr result (self.new.entries ≡ self.old.entries) }
+        ensures ok { OnOk result (self.new ≡ with_entry self.old key row number command.now) }
+        ensures err { OnErr result (self.new ≡ self.old) }
     {
         self.heads.reserve(1)?;
         let parts = self.parts.len();
