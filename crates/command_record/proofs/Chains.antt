@@ -1,6 +1,7 @@
 -- The entries of a chain, after one was added and after some were cut off.
-use Rattle.std.proofs.Common.{◌≡◌, ℕ, ◌+◌, ◌-◌, ◌<◌, ◌≤◌, inl, inr, List, [], ◌∷◌, ◌++◌, All, AllPairs, length, map, take, get_or, refl, sym, ap, ap₂, ◌∙◌, subst, subst₂, arith}
+use Rattle.std.proofs.Common.{◌≡◌, ℕ, ◌+◌, ◌-◌, ◌<◌, ◌≤◌, inl, inr, List, [], ◌∷◌, ◌++◌, All, AllPairs, length, map, take, get_or, slice_get, Some, refl, sym, ap, ap₂, ◌∙◌, subst, subst₂, arith}
 use Rattle.std.proofs.lemmas.List.{length-append, length-take, length-take-le, length_push, length-map, get_or-take, map-append, take-map, take_all}
+use Rattle.std.proofs.lemmas.Option.{get_or_from_slice_get, slice_get_within}
 use Rattle.std.proofs.lemmas.List.Elements.{All-nil, All-head, All-tail, All-push, All-take, All-weaker, All-from_get_or}
 use Rattle.std.proofs.lemmas.List.Quantifiers.{all_pairs_push}
 use Rattle.world_model.specs.Members.{In}
@@ -12,7 +13,7 @@ use Rattle.command_record.specs.declared.chain.Head.{Head}
 use Rattle.command_record.specs.declared.chain.TheConstants.{MOST_ENTRIES}
 use Rattle.command_record.specs.Kept.{act_of, part_heads_of, values_of, count_in, within, command_from}
 use Rattle.command_record.specs.Heads.{AreKept, Fits, IsBefore, IsThere, entries_from, entry_from}
-use Rattle.command_record.proofs.Kept.{command_back, count_kept}
+use Rattle.command_record.proofs.GivenBack.{command_back, count_kept}
 use Rattle.command_record.proofs.Spans.{Begins, begins_append, begins_take, fits_more, within_added, within_longer}
 
 map_same : {X Y : Type 0} (f g : X → Y) (xs : List X) → All (λ x. f x ≡ g x) xs → map f xs ≡ map g xs
@@ -113,43 +114,48 @@ module _ (parts : List PartHead) (values : List CmdValue) (heads : List Head) (k
         ∙ ap₂ (command_from (act_of c)) own_parts own_values ∙ command_back c)
 
   -- the head at place n is the first that is cut off, with its parts and values
-  module _ (n : ℕ) (d : Head) (below : n < length heads) where
+  module _ (n : ℕ) (next : Head) (at : slice_get heads n ≡ Some next) where
     abbrev left_parts : List PartHead
-    left_parts = take (get_or heads n d).parts.start parts
+    left_parts = take next.parts.start parts
 
     abbrev left_values : List CmdValue
-    left_values = take (get_or heads n d).values.start values
+    left_values = take next.values.start values
 
-    parts_left : length left_parts ≡ (get_or heads n d).parts.start
+    below : n < length heads
+    below = slice_get_within heads n next at
+
+    next_there : IsThere parts values next
+    next_there = subst (IsThere parts values) (get_or_from_slice_get heads n next next at) (kept.there n next below)
+
+    parts_left : length left_parts ≡ next.parts.start
     parts_left =
-        let there = (kept.there n d below).parts in
-        let within_all : (get_or heads n d).parts.start ≤ length parts = omega (arith, there.ordered, there.ends) in
-        length-take-le (get_or heads n d).parts.start parts within_all
+        let start : next.parts.start ≤ length parts = omega (arith, next_there.parts.ordered, next_there.parts.ends) in
+        length-take-le next.parts.start parts start
 
-    values_left : length left_values ≡ (get_or heads n d).values.start
+    values_left : length left_values ≡ next.values.start
     values_left =
-        let there = (kept.there n d below).values in
-        let within_all : (get_or heads n d).values.start ≤ length values = omega (arith, there.ordered, there.ends) in
-        length-take-le (get_or heads n d).values.start values within_all
+        let start : next.values.start ≤ length values = omega (arith, next_there.values.ordered, next_there.values.ends) in
+        length-take-le next.values.start values start
 
-    left_lies : (k : ℕ) → k < n → Lies (length left_parts) (length left_values) (get_or heads k d)
+    left_lies : (k : ℕ) → k < n → Lies (length left_parts) (length left_values) (get_or heads k next)
     left_lies k before =
-        let there = kept.there k d (omega (arith, before, below)) in
-        let apart = kept.rising k n d before below in
+        let there = kept.there k next (omega (arith, before, below)) in
+        let apart : IsBefore (get_or heads k next) next =
+        subst (IsBefore (get_or heads k next)) (get_or_from_slice_get heads n next next at) (kept.rising k n next before below) in
         record {
           parts_fit = record { ordered = there.parts.ordered; ends = omega (arith, apart.parts, parts_left) };
           values_fit = record { ordered = there.values.ordered; ends = omega (arith, apart.values, values_left) };
         }
 
     left_lie : All (Lies (length left_parts) (length left_values)) (take n heads)
-    left_lie = All-from_get_or (Lies (length left_parts) (length left_values)) (take n heads) d (λ k b.
+    left_lie = All-from_get_or (Lies (length left_parts) (length left_values)) (take n heads) next (λ k b.
         let before : k < n = omega (arith, b, length-take n heads) in
-        subst (Lies (length left_parts) (length left_values)) (sym (get_or-take n heads k d before)) (left_lies k before))
+        subst (Lies (length left_parts) (length left_values)) (sym (get_or-take n heads k next before)) (left_lies k before))
 
     pub kept_cut : AreKept left_parts left_values (take n heads)
     kept_cut = record {
       there = λ k e b. there_shorter parts left_parts values left_values
-          (begins_take (get_or heads n d).parts.start parts) (begins_take (get_or heads n d).values.start values)
+          (begins_take next.parts.start parts) (begins_take next.values.start values)
           (get_or (take n heads) k e) (left_lie k e b) (All-take (IsThere parts values) n heads kept.there k e b);
       rising = λ i j e before b.
           let second : j < n = omega (arith, b, length-take n heads) in
@@ -162,7 +168,7 @@ module _ (parts : List PartHead) (values : List CmdValue) (heads : List Head) (k
     pub entries_cut : (item : ℕ) → entries_from item left_parts left_values (take n heads) ≡ take n (entries_from item parts values heads)
     entries_cut item =
         sym (entries_same parts left_parts values left_values
-        (begins_take (get_or heads n d).parts.start parts) (begins_take (get_or heads n d).values.start values) item (take n heads) left_lie)
+        (begins_take next.parts.start parts) (begins_take next.values.start values) item (take n heads) left_lie)
         ∙ sym (take-map (entry_from item parts values) n heads)
 
   -- nothing is cut off where no head stands at place n

@@ -1,3 +1,3 @@
 pub mod Spans
-pub mod Kept
+pub mod GivenBack
 pub mod Chains

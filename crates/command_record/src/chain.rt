@@ -3,7 +3,7 @@ ghost use Rattle.std.specs.Prelude.{◌≡◌, ◌≤◌, ◌<◌, [], length, t
 ghost use Rattle.command_record.specs.Chains.{AreOwn, with_entry};
 
 use crate::command::{CmdValue, Command};
-use crate::kept::{Act, PartHead, Span, act, keep, make_command};
+use crate::kept::{Act, PartHead, Span, keep, make_act, make_command};
 use ent_types::Memory;
 use std::alloc::Global;
 use std::marker::Model;
@@ -118,7 +118,7 @@ impl Chain {
             key,
             row,
             number,
-            act: act(command),
+            act: make_act(command),
             parts: Span {
                 start: parts,
                 end: self.parts.len(),
