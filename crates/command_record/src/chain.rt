@@ -136,10 +136,12 @@ impl Chain {
         requires { len ≤ length self.old.entries }
         ensures { self.new ≡ record self.old { entries = take len self.old.entries } }
     {
-        let Some(next) = self.heads.get(len as usize).copied() else {
+        let len = len as usize;
+        if len == self.heads.len() {
             return;
-        };
-        self.heads.truncate(len as usize);
+        }
+        let next = self.heads[len];
+        self.heads.truncate(len);
         self.parts.truncate(next.parts.start);
         self.values.truncate(next.values.start);
     }
