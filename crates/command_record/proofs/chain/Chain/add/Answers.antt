@@ -1,10 +1,10 @@
-use Rattle.std.proofs.Common.{◌≡◌, ◌<◌, ◌∙◌, List, [], ◌∷◌, ◌++◌, length, sym, ap, arith, of_z, to_z, w32}
+use Rattle.std.proofs.Common.{◌≡◌, ◌<◌, ◌∙◌, [], ◌∷◌, ◌++◌, length, ap, arith, of_z, to_z, w32}
 use Rattle.std.proofs.lemmas.Int.{to_z-of_z}
 use Rattle.command_record.specs.declared.chain.Entry.{Entry}
 use Rattle.command_record.specs.declared.chain.Head.{Head}
 use Rattle.command_record.specs.declared.chain.TheConstants.{MOST_ENTRIES}
 use Rattle.command_record.specs.Chains.{ChainState}
-use Rattle.command_record.specs.Heads.{AreKept, entries_from}
+use Rattle.command_record.specs.Heads.{entries_from}
 use Rattle.command_record.proofs.Chains.{IsAdded, kept_added, entries_added, count_entries}
 use Rattle.command_record.proofs.chain.Chain.add.Goals as goal
 

@@ -1,7 +1,7 @@
 use Rattle.std.proofs.Common.{◌≡◌, ◌<◌, ◌∙◌, Some, length, slice_get, take, refl, ap, ap₂, arith}
 use Rattle.std.proofs.lemmas.Option.{slice_get_read}
 use Rattle.command_record.specs.Chains.{ChainState}
-use Rattle.command_record.specs.Heads.{AreKept, entries_from}
+use Rattle.command_record.specs.Heads.{entries_from}
 use Rattle.command_record.proofs.Chains.{kept_cut, entries_cut, count_entries}
 use Rattle.command_record.proofs.chain.Chain.cut.Goals as goal
 

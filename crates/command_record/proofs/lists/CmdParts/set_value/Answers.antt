@@ -1,4 +1,4 @@
-use Rattle.std.proofs.Common.{◌<◌, ◌≡◌, ◌∙◌, List, length, set, sym, ap, subst, arith}
+use Rattle.std.proofs.Common.{◌<◌, ◌≡◌, ◌∙◌, length, set, sym, ap, subst, arith}
 use Rattle.command_record.specs.declared.command.CmdPart.{CmdPart}
 use Rattle.command_record.specs.Changes.{values_at, with_value_in, changed}
 use Rattle.command_record.proofs.Changed.{has_part, values_there, changed_there}
