@@ -1,5 +1,5 @@
 -- The part of a row that is changed.
-use Rattle.std.proofs.Common.{◌≡◌, ℕ, zero, suc, ◌<◌, List, [], ◌∷◌, Some, length, set, slice_get, refl, sym, ap, ◌∙◌, arith}
+use Rattle.std.proofs.Common.{◌≡◌, ℕ, zero, suc, ◌<◌, List, [], ◌∷◌, Some, length, set, slice_get, sym, ap, arith}
 use Rattle.std.proofs.lemmas.Option.{none-some, same_Some}
 use Rattle.command_record.specs.declared.command.CmdPart.{CmdPart}
 use Rattle.command_record.specs.declared.command.CmdValue.{CmdValue}
