@@ -1,8 +1,11 @@
 //! Items.
+ghost use Rattle.std.specs.Prelude.{◌≡◌};
+ghost use Rattle.world_loans.specs.Fitting.{AreFitting};
+ghost use Rattle.item_run.specs.Items.{Finishes, IsItem, registry_of};
+
 use crate::texts::do_texts;
-use chunk_block::{Block, Loan};
+use chunk_block::Loan;
 use enable_bits::Mask;
-use ent_types::Registry;
 use scenario_record::SystemEntry;
 use std::marker::Model;
 use structural_ops::Frozen;
@@ -24,18 +27,33 @@ impl<'a> Model for Item<'a> {
 
     ghost Value = { ItemState };
 
-    ghost view = { λ i. record { frozen = i.frozen.now; system = i.system.now; loan = i.loan; item = i.item; frame = i.frame; left = i.left } };
+    ghost view = { λ i. record { at = record { frozen = i.frozen.now; loan = i.loan; item = i.item; frame = i.frame }; system = i.system.now; left = i.left } };
 
-    ghost invariant = { λ i. IsItem (record { frozen = i.frozen.now; system = i.system.now; loan = i.loan; item = i.item; frame = i.frame; left = i.left }) };
+    ghost invariant = { λ i. IsItem (record { at = record { frozen = i.frozen.now; loan = i.loan; item = i.item; frame = i.frame }; system = i.system.now; left = i.left }) };
 }
 
 impl<'a> Item<'a> {
-    /// Returns the item of a loan, of which no row has run.
-    pub fn new(frozen: &'a Frozen, system: &'a SystemEntry, item: u32, frame: u32, rows: Mask, loan: Loan) -> Item<'a>
-        requires { IsItem (record { frozen = frozen.now; system = system.now; loan = loan; item = item; frame = frame; left = rows }) }
-        ensures { result ≡ record { frozen = frozen.now; system = system.now; loan = loan; item = item; frame = frame; left = rows } }
+    /// Returns the item of a loan, of which no row has run. `item` is the number of the visit, from 0, and `rows` has the matching rows.
+    /// It takes no memory.
+    pub fn new(
+        frozen: &'a Frozen,
+        system: &'a SystemEntry,
+        item: u32,
+        frame: u32,
+        rows: Mask,
+        loan: Loan,
+    ) -> Item<'a>
+        requires { IsItem (record { at = record { frozen = frozen.now; loan = loan; item = item; frame = frame }; system = system.now; left = rows }) }
+        ensures { result ≡ record { at = record { frozen = frozen.now; loan = loan; item = item; frame = frame }; system = system.now; left = rows } }
     {
-        Item { frozen, system, loan, item, frame, left: rows }
+        Item {
+            frozen,
+            system,
+            loan,
+            item,
+            frame,
+            left: rows,
+        }
     }
 
     /// Runs all rows that are left, text by text. It takes no memory.
@@ -48,8 +66,8 @@ impl<'a> Item<'a> {
 
     /// Returns the loan as it stands. It takes no memory.
     pub fn take_apart(self) -> Loan
-        ensures { result ≡ self.loan }
-        ensures fit { AreFitting (registry_of self) result.pieces }
+        ensures value { result ≡ self.at.loan }
+        ensures fit { AreFitting (registry_of self.at) result.pieces }
     {
         let Item { loan, .. } = self;
         loan

@@ -85,19 +85,20 @@ pub record AssignRuns (registry : List TypeInfo) (s : SystemEntry) (a : Assign) 
   pub column : has_column_at registry a.ty.0 ≡ true
   pub field : has_field registry a.ty a.field ≡ true
   pub kind : IsOfKind (field_kind_at registry a.ty.0 a.field) a.value
-  pub reads : ValueReads (sources_of registry s) a.value
 
 -- a bound enableable type
 pub record SwitchRuns (registry : List TypeInfo) (s : SystemEntry) (w : Switch) : Type 0 where
   pub bound : is_bound s w.ty.0 ≡ true
   pub known : IsKnown registry w.ty.0
   pub enableable : is_enableable_at registry w.ty.0 ≡ true
-  pub reads : ExprReads (sources_of registry s) w.value
 
-pub record CommandRuns (registry : List TypeInfo) (s : SystemEntry) (c : CommandEntry) : Type 0 where
-  pub when : ExprReads (sources_of registry s) c.when
-  pub key : ExprReads (sources_of registry s) c.key
-  pub act : CommandReads (sources_of registry s) c.act
+-- each text of a system reads from these sources alone
+pub record SystemReads (from : Sources) (s : SystemEntry) : Type 0 where
+  pub assigns : (a : Assign) → In a s.set → ValueReads from a.value
+  pub switches : (w : Switch) → In w s.enable → ExprReads from w.value
+  pub when : (c : CommandEntry) → In c s.command → ExprReads from c.when
+  pub key : (c : CommandEntry) → In c s.command → ExprReads from c.key
+  pub acts : (c : CommandEntry) → In c s.command → CommandReads from c.act
 
 pub record SystemRuns (registry : List TypeInfo) (s : SystemEntry) : Type 0 where
   pub every : 1 ≤ s.every
@@ -106,7 +107,7 @@ pub record SystemRuns (registry : List TypeInfo) (s : SystemEntry) : Type 0 wher
   pub assigns : (a : Assign) → In a s.set → AssignRuns registry s a
   pub switches : (w : Switch) → In w s.enable → SwitchRuns registry s w
   pub few_commands : length s.command ≤ MOST_COMMANDS
-  pub commands : (c : CommandEntry) → In c s.command → CommandRuns registry s c
+  pub reads : SystemReads (sources_of registry s) s
   pub suits : SystemSuits registry s
 
 -- ---- spawns and events
