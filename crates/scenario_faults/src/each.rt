@@ -11,7 +11,7 @@ use std::alloc::Global;
 
 /// Returns the same fault, seen from the table that has the list with this element.
 #[tactic(auto, using(crate::proofs::FaultLemmas::moved_twice))]
-pub(crate) fn at_element(
+pub fn at_element(
     alloc: Global,
     key: &str,
     place: usize,
