@@ -13,9 +13,7 @@ use ent_types::limits::{LONGEST_SCENARIO, MOST_SYSTEMS};
 use plain_text::write_world;
 use plain_world::run_scenario;
 use scenario_check::{check, is_built};
-use scenario_laws::{
-    what_is_read_can_be_checked, what_passes_can_be_run, what_passes_is_ordered,
-};
+use scenario_laws::{what_is_read_can_be_checked, what_passes_can_be_run, what_passes_is_ordered};
 use scenario_read::read_scenario;
 use scenario_record::{Plan, Scenario};
 use std::alloc::Global;
