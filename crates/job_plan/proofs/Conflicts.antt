@@ -107,7 +107,7 @@ has_three a b c t small =
 texts_written : (assigns : List Assign) (switches : List Switch) → map written_type (map Assigns assigns ++ map Switches switches) ≡ map (λ a. a.ty.0) assigns ++ map (λ w. w.ty.0) switches
 texts_written [] [] = refl
 texts_written [] (w ∷ ws) = ap (λ ts. w.ty.0 ∷ ts) (texts_written [] ws)
-texts_written (a ∷ as) ws = ap (λ ts. a.ty.0 ∷ ts) (texts_written as ws)
+texts_written (a ∷ rest) ws = ap (λ ts. a.ty.0 ∷ ts) (texts_written rest ws)
 
 writes_are : (y : SystemEntry) → writes y ≡ written y
 writes_are y = texts_written y.set y.enable
@@ -155,10 +155,10 @@ module _ (registry : List TypeInfo) (few : length registry ≤ 256) (y : SystemE
 
   assigns_small : (assigns : List Assign) → list_all (assign_fits registry (is_bound y)) assigns ≡ true → AreSmall (map (λ a. a.ty.0) assigns)
   assigns_small [] fit = tt
-  assigns_small (a ∷ as) fit =
-      let both = and_parts (assign_fits registry (is_bound y) a) (list_all (assign_fits registry (is_bound y)) as) fit in
+  assigns_small (a ∷ rest) fit =
+      let both = and_parts (assign_fits registry (is_bound y) a) (list_all (assign_fits registry (is_bound y)) rest) fit in
       let front = and_parts _ _ both.0 in
-      (bound_small a.ty.0 (and_parts (is_bound y a.ty.0) _ front.0).0, assigns_small as both.1)
+      (bound_small a.ty.0 (and_parts (is_bound y a.ty.0) _ front.0).0, assigns_small rest both.1)
 
   switches_small : (switches : List Switch) → list_all (switch_fits registry (is_bound y)) switches ≡ true → AreSmall (map (λ w. w.ty.0) switches)
   switches_small [] fit = tt

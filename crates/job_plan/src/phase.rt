@@ -69,7 +69,7 @@ fn end_by(
     part: FramePart,
 ) -> Result<Sequence<u32>, Memory>
     ensures parts { IfOk result (λ _. map model_part parts.new ≡ map model_part parts.old ++ (ended phase ++ model_part part ∷ [])) }
-    ensures open { IfOk result (λ open. open ≡ []) }
+    ensures phase { IfOk result (λ next. next ≡ []) }
 {
     end_phase(parts, phase)?;
     parts.push(part)?;
@@ -86,7 +86,7 @@ fn add_system(
     n: u32,
 ) -> Result<Sequence<u32>, Memory>
     ensures parts { IfOk result (λ _. map model_part parts.new ≡ map model_part parts.old ++ closed_by (access_conflict_at access.now) phase n) }
-    ensures open { IfOk result (λ open. open ≡ opened_by (access_conflict_at access.now) phase n) }
+    ensures phase { IfOk result (λ next. next ≡ opened_by (access_conflict_at access.now) phase n) }
 {
     if conflicts_with_phase(access, phase.as_slice(), n) {
         parts.push(FramePart::Phase(phase))?;
@@ -105,7 +105,7 @@ fn add_step(
     phase: Sequence<u32>,
     step: Step,
 ) -> Result<Sequence<u32>, Memory>
-    ensures { IfOk result (λ open. (rest : List PlanStep) → map model_part parts.new ++ parts_after (access_conflict_at access.now) (is_running running.now) open rest
+    ensures { IfOk result (λ next. (rest : List PlanStep) → map model_part parts.new ++ parts_after (access_conflict_at access.now) (is_running running.now) next rest
         ≡ map model_part parts.old ++ parts_after (access_conflict_at access.now) (is_running running.now) phase (step ∷ rest)) }
 {
     match step {
