@@ -1,18 +1,19 @@
 -- The numbers of children, by their names.
-use Rattle.std.proofs.Common.{ℕ, ◌≡◌, ◌+◌, ◌<◌, ◌≤◌, List, [], ◌∷◌, ◌++◌, Bool, true, false, cond, ◌||◌, Option, Some, None, length, map, position, refl, sym, ap, ◌∙◌, subst, append-nil, append_assoc, ltb, arith, inl, inr}
-use Rattle.std.specs.Prelude.{option_map, unwrap_or}
+use Rattle.std.proofs.Common.{ℕ, ◌≡◌, ◌+◌, ◌<◌, ◌≤◌, List, [], ◌∷◌, ◌++◌, Bool, true, false, cond, ◌||◌, Option, Some, None, length, map, position, refl, sym, ap, ap₂, ◌∙◌, subst, append-nil, append_assoc, ltb, arith, inl, inr}
+use Rattle.std.specs.Prelude.{codes, option_map, unwrap_or}
 use Rattle.std.specs.Option.{option_or}
-use Rattle.std.specs.List.{cons_option, filter_map, list_any, position_from}
+use Rattle.std.specs.List.{list_any, position_from}
 use Rattle.std.proofs.lemmas.Bool.{cases_lt, lt-ltb, le-ltb}
 use Rattle.std.proofs.lemmas.Iterator.Adapters.{position_from-zero}
 use Rattle.std.proofs.lemmas.List.{length-map}
 use Rattle.std.proofs.lemmas.List.Folds.{list_any-append}
 use Rattle.ent_types.specs.Types.{same_name}
 use Rattle.indexmap.specs.IndexSet.{insert_all, insert_key}
+use Rattle.scenario_record.specs.declared.fault.Cause.TheVariants.{DuplicateName}
 use Rattle.scenario_record.specs.declared.record.GroupEntry.{GroupEntry}
 use Rattle.scenario_record.specs.declared.record.Scenario.{Scenario}
 use Rattle.scenario_record.specs.declared.record.SystemEntry.{SystemEntry}
-use Rattle.scenario_faults.specs.Checks.{root_groups, repeated_from, group_names, system_names, names_fault}
+use Rattle.scenario_faults.specs.Checks.{root_groups, fault_at, repeated_from, group_names, system_names, names_fault}
 use Rattle.scenario_faults.proofs.FaultLemmas.{neither_of, none_at}
 use Rattle.run_model.specs.Steps.{root_names, group_number}
 use Rattle.scenario_check.specs.Children.{child_names}
@@ -44,18 +45,30 @@ inserted keys taken i (n ∷ ns) h none =
     by false false found none rest = rest none ∙ append_assoc keys (n ∷ []) ns
 
 -- without a fault of names, no name is passed over
-pub all_new : (s : Scenario) → names_fault s ≡ None → insert_all same_name (insert_all same_name [] (map (λ (g : GroupEntry). g.name) s.group)) (map (λ (y : SystemEntry). y.name) s.system) ≡ child_names s
+all_new : (s : Scenario) → names_fault s ≡ None → insert_all same_name (insert_all same_name [] (map (λ (g : GroupEntry). g.name) s.group)) (map (λ (y : SystemEntry). y.name) s.system) ≡ child_names s
 unfolding names_fault
 all_new s none =
-    let both = neither_of _ _ none in
-    let groups = none_at _ _ _ _ both.0 in
-    let systems = none_at _ _ _ _ (neither_of _ _ both.1).0 in
+    let names = codes "name" in
+    let first = repeated_from root_groups 0 (group_names s) in
+    let second = repeated_from (root_groups ++ group_names s) 0 (system_names s) in
+    let later = fault_at (codes "system") names DuplicateName second ∷ [] in
+    let both = neither_of (fault_at (codes "group") names DuplicateName first) later none in
+    let groups = none_at (codes "group") names DuplicateName first both.0 in
+    let systems = none_at (codes "system") names DuplicateName second (neither_of (fault_at (codes "system") names DuplicateName second) [] both.1).0 in
     ap (λ ks. insert_all same_name ks (system_names s)) (inserted [] root_groups 0 (group_names s) (λ n is. absurd cc) groups)
     ∙ inserted (group_names s) (root_groups ++ group_names s) 0 (system_names s) (λ n is. list_any-append (same_name n) root_groups (group_names s) ∙ or_right (list_any (same_name n) root_groups) (list_any (same_name n) (group_names s)) is) systems
   where
     or_right : (a b : Bool) → b ≡ true → (a || b) ≡ true
     or_right true b is = refl
     or_right false b is = is
+
+pub names_are : (s : Scenario) (none first last : List (List ℕ)) (groups : List GroupEntry) (systems : List SystemEntry) → names_fault s ≡ None → none ≡ [] → groups ≡ s.group → systems ≡ s.system
+    → first ≡ insert_all same_name none (map (λ (g : GroupEntry). g.name) groups) → last ≡ insert_all same_name first (map (λ (y : SystemEntry). y.name) systems) → last ≡ child_names s
+names_are s none first last groups systems fault empty is_groups is_systems is_first is_last =
+    is_last
+    ∙ (ap (λ ks. insert_all same_name ks (map (λ (y : SystemEntry). y.name) systems)) (is_first ∙ ap (λ ks. insert_all same_name ks (map (λ (g : GroupEntry). g.name) groups)) empty)
+    ∙ (ap₂ (λ (gs : List GroupEntry) (ys : List SystemEntry). insert_all same_name (insert_all same_name [] (map (λ (g : GroupEntry). g.name) gs)) (map (λ (y : SystemEntry). y.name) ys)) is_groups is_systems
+    ∙ all_new s fault))
 
 -- ---- the number of a group
 
@@ -85,7 +98,7 @@ module _ {A : Type 0} (p : A → Bool) where
   -- the place in the front of a list
   in_front : (xs ys : List A) → below (length xs) (position p (xs ++ ys)) ≡ position p xs
   in_front xs ys =
-      ap (below (length xs)) (position_from-zero p (xs ++ ys)) ∙ (from_front (length xs) 0 xs ys refl ∙ sym (position_from-zero p xs))
+      ap (below (length xs)) (position_from-zero p (xs ++ ys)) ∙ (from_front (length xs) 0 xs ys (omega arith) ∙ sym (position_from-zero p xs))
 
   shifted : (k i : ℕ) (xs : List A) → position_from p (k + i) xs ≡ option_map (λ j. k + j) (position_from p i xs)
   shifted k i [] = refl
@@ -141,11 +154,5 @@ group_is place n roots found none is h =
 pub default_is : (n : ℕ) (roots found : Option ℕ) → None ≡ roots → below n found ≡ None → 1 ≡ number_by roots (below n found)
 default_is n roots found none is = ap (λ r. number_by r None) none ∙ ap (number_by roots) (sym is)
 
--- ---- lists of numbers
-
-pub named_step : (h : List ℕ → Option ℕ) (front : List ℕ) (name : List ℕ) (names : List (List ℕ)) → (front ++ filter_map h (name ∷ [])) ++ filter_map h names ≡ front ++ filter_map h (name ∷ names)
-named_step h front name names = by (h name)
-  where
-    by : (o : Option ℕ) → (front ++ cons_option o []) ++ filter_map h names ≡ front ++ cons_option o (filter_map h names)
-    by None = ap (λ xs. xs ++ filter_map h names) (append-nil front)
-    by (Some x) = append_assoc front (x ∷ []) (filter_map h names)
+pub none_before : (place n : ℕ) (found : Option ℕ) → Some place ≡ found → n ≤ place → below n found ≡ None
+none_before place n found is h = ap (below n) (sym is) ∙ ap (λ b. cond b (Some place) None) (le-ltb place n h)
