@@ -1,14 +1,14 @@
 -- The numbers of children, by their names.
-use Rattle.std.proofs.Common.{ℕ, ◌≡◌, ◌+◌, ◌<◌, ◌≤◌, List, [], ◌∷◌, ◌++◌, Bool, true, false, cond, ◌||◌, Option, Some, None, length, map, position, refl, sym, ap, ap₂, ◌∙◌, subst, append-nil, append_assoc, ltb, arith, inl, inr}
+use Rattle.std.proofs.Common.{ℕ, ◌≡◌, ◌+◌, ◌<◌, ◌≤◌, List, [], ◌∷◌, ◌++◌, Bool, true, false, cond, ◌||◌, Option, Some, None, length, map, position, refl, sym, ap, ap₂, ◌∙◌, append-nil, append_assoc, ltb, arith}
 use Rattle.std.specs.Prelude.{codes, option_map, unwrap_or}
 use Rattle.std.specs.Option.{option_or}
 use Rattle.std.specs.List.{list_any, position_from}
-use Rattle.std.proofs.lemmas.Bool.{cases_lt, lt-ltb, le-ltb}
+use Rattle.std.proofs.lemmas.Bool.{lt-ltb, le-ltb}
 use Rattle.std.proofs.lemmas.Iterator.Adapters.{position_from-zero}
 use Rattle.std.proofs.lemmas.List.{length-map}
 use Rattle.std.proofs.lemmas.List.Folds.{list_any-append}
 use Rattle.ent_types.specs.Types.{same_name}
-use Rattle.indexmap.specs.IndexSet.{insert_all, insert_key}
+use Rattle.indexmap.specs.IndexSet.{insert_all}
 use Rattle.scenario_record.specs.declared.fault.Cause.TheVariants.{DuplicateName}
 use Rattle.scenario_record.specs.declared.record.GroupEntry.{GroupEntry}
 use Rattle.scenario_record.specs.declared.record.Scenario.{Scenario}

@@ -1,4 +1,4 @@
-use Rattle.std.proofs.Common.{ℕ, ◌≡◌, position, length, ap, sym, ◌∙◌, arith}
+use Rattle.std.proofs.Common.{position, length, ap, sym, ◌∙◌, arith}
 use Rattle.ent_types.specs.Types.{same_name}
 use Rattle.run_model.specs.Steps.{root_names}
 use Rattle.scenario_check.proofs.ChildLemmas.{below, number_is, root_is, group_is, default_is, none_before}

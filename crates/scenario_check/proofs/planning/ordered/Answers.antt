@@ -1,5 +1,4 @@
-use Rattle.std.proofs.Common.{sym, ap, length, ◌∙◌, ◌≡◌, arith}
-use Rattle.run_model.specs.Steps.{children_of}
+use Rattle.std.proofs.Common.{ap, length, ◌∙◌, arith}
 use Rattle.scenario_check.proofs.OrderLemmas.{few_children, cycle_due, plan_due}
 use Rattle.scenario_check.proofs.planning.ordered.Goals as goal
 
