@@ -1,5 +1,5 @@
 -- The groups of a scenario that passes its checks can be ordered, and its plan has their order.
-use Rattle.std.proofs.Common.{ℕ, ◌≡◌, ◌+◌, ◌-◌, ◌<◌, ◌≤◌, zero, suc, List, [], ◌∷◌, ◌++◌, Bool, true, false, cond, ◌||◌, Option, None, Some, Result, Ok, Err, length, map, position, get_or, ltb, refl, sym, ap, ◌∙◌, subst, append-nil, append_assoc, if◌then◌else◌, inl, inr, arith}
+use Rattle.std.proofs.Common.{ℕ, ◌≡◌, ◌+◌, ◌-◌, ◌<◌, ◌≤◌, zero, suc, List, [], ◌∷◌, ◌++◌, Bool, true, false, cond, ◌||◌, Option, None, Some, Ok, Err, length, map, position, get_or, refl, sym, ap, ◌∙◌, subst, append-nil, append_assoc, if◌then◌else◌, inl, inr, arith}
 use Rattle.std.specs.Prelude.{codes, unwrap_or}
 use Rattle.std.specs.Option.{option_map}
 use Rattle.std.specs.List.{list_any, position_from}
@@ -16,14 +16,14 @@ use Rattle.scenario_record.specs.declared.record.GroupEntry.{GroupEntry}
 use Rattle.scenario_record.specs.declared.record.Scenario.{Scenario}
 use Rattle.scenario_record.specs.declared.record.SystemEntry.{SystemEntry}
 use Rattle.scenario_record.specs.Faults.{bad}
-use Rattle.scenario_record.specs.Readings.{Reading, unless, whole_path}
-use Rattle.scenario_faults.specs.Checks.{fault_at, root_groups, group_names, orphan_from, stray_from, names_fault, parents_fault, siblings_fault, spawns_fault, lookups_fault, events_fault, first_fault}
+use Rattle.scenario_record.specs.Readings.{Reading, unless}
+use Rattle.scenario_faults.specs.Checks.{fault_at, root_groups, group_names, orphan_from, stray_from, names_fault, parents_fault, first_fault}
 use Rattle.scenario_faults.proofs.FaultLemmas.{neither_of, none_at}
 use Rattle.system_order.specs.declared.child.Child.{Child}
 use Rattle.system_order.specs.Child.{child_at, no_child}
 use Rattle.system_order.specs.Order.{first_cycle}
 use Rattle.system_order.specs.Roots.{IsForest}
-use Rattle.run_model.specs.Steps.{root_names, group_number, group_child, system_child, children_of, first_system, steps_of, IsOrdered}
+use Rattle.run_model.specs.Steps.{root_names, group_number, group_child, system_child, children_of, first_system, IsOrdered}
 use Rattle.run_laws.proofs.Moments.{groups_first, length_children, length_steps}
 use Rattle.scenario_check.specs.Planned.{at_child, cycle_fault, plan_of, ordered, planned, checked}
 use Rattle.read_laws.proofs.Inversions.{whole_ok}
@@ -128,26 +128,27 @@ module _ (s : Scenario) where
       earlier : (child_at (children_of s) n).parent < n
       group : (child_at (children_of s) n).parent < first_system s
 
-    parent_at : (k : ℕ) → 3 + k < length (children_of s) → IsBelow (3 + k)
+    parent_at : (k : ℕ) → suc (suc (suc k)) < length (children_of s) → IsBelow (suc (suc (suc k)))
     unfolding children_of
     parent_at k h =
         let systems_at = map (system_child s) s.system in
         let all = length_children s in
+        let here : (child_at (children_of s) (suc (suc (suc k)))).parent ≡ (get_or (map (group_child s) s.group ++ systems_at) k no_child).parent = refl in
         elim (cases_lt k (length s.group)) [
           | inl early ↦
               let low = group_below root_names s.group systems_at k refl groups early in
-              record { earlier = omega (arith, low); group = omega (arith, low, early) }
+              record { earlier = omega (arith, here, low); group = omega (arith, here, low, early) }
           | inr late ↦
               let low = system_below s.system (k - length s.group) systems (omega (arith, h, all, late)) in
               let is = ap (λ (c : Child). c.parent) (past_groups s.group systems_at k late) in
-              record { earlier = omega (arith, low, is, late); group = omega (arith, low, is) }
+              record { earlier = omega (arith, here, low, is, late); group = omega (arith, here, low, is) }
         ]
 
     below : (n : ℕ) → 3 ≤ n → n < length (children_of s) → IsBelow n
-    below n low high =
-        let k = n - 3 in
-        let is : 3 + k ≡ n = omega (arith, low) in
-        subst IsBelow is (parent_at k (omega (arith, is, high)))
+    below zero low high = absurd (omega (arith, low))
+    below (suc zero) low high = absurd (omega (arith, low))
+    below (suc (suc zero)) low high = absurd (omega (arith, low))
+    below (suc (suc (suc k))) low high = parent_at k high
 
     forest : IsForest (children_of s)
     forest = record {

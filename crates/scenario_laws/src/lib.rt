@@ -15,7 +15,6 @@ ghost use Rattle.scenario_check.specs.Planned.{plan_of, checked};
 ghost use Rattle.scenario_check.specs.Built.{is_built};
 
 /// Each scenario that was read can be checked.
-#[tactic(auto, using(crate::proofs::Kept::can_be_checked))]
 pub fn what_is_read_can_be_checked()
     ensures { (bytes : List ℕ) (s : Scenario) → scenario_of bytes ≡ Ok s → IsRead s }
 {}
