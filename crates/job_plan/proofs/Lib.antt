@@ -1,3 +1,3 @@
-pub mod Conflicts
+pub mod TouchedSets
 pub mod Parts
 pub mod PlanLaw

@@ -1,8 +1,8 @@
 -- Phases that are made one system after another are those of all systems.
-use Rattle.std.proofs.Common.{◌≡◌, ℕ, Bool, true, false, List, [], ◌∷◌, ◌++◌, map, refl, sym, ap, ◌∙◌, append-nil, append_assoc}
+use Rattle.std.proofs.Common.{◌≡◌, ℕ, Bool, true, false, List, [], ◌∷◌, ◌++◌, length, drop, map, ◌≤◌, refl, sym, ap, ◌∙◌, append-nil, append_assoc}
 use Rattle.std.specs.Prelude.{if◌then◌else◌}
 use Rattle.std.specs.List.{list_any}
-use Rattle.std.proofs.lemmas.List.{map-append}
+use Rattle.std.proofs.lemmas.List.{drop_all, map-append}
 use Rattle.scenario_record.specs.declared.plan.Step.{Step}
 use Rattle.scenario_record.specs.declared.plan.Step.TheVariants.{Events, Play, Run}
 use Rattle.run_model.specs.Phases.{phases_from, phases_by}
@@ -91,5 +91,14 @@ module _ (conflict : ℕ → ℕ → Bool) where
         by true added left = added
         by false added left = left
 
-pub parts_are : (conflict : ℕ → ℕ → Bool) (runs : ℕ → Bool) (steps : List Step) → parts_from conflict runs [] steps ≡ parts_after conflict runs [] steps
+parts_are : (conflict : ℕ → ℕ → Bool) (runs : ℕ → Bool) (steps : List Step) → parts_from conflict runs [] steps ≡ parts_after conflict runs [] steps
 parts_are conflict runs steps = steps_are conflict runs [] [] [] steps (λ ns. refl)
+
+-- the parts after all steps, and the phase that is open then
+pub all_parts : (conflict : ℕ → ℕ → Bool) (runs : ℕ → Bool) (steps : List Step) (i : ℕ) (phase : List ℕ) (front all : List FramePart) → length steps ≤ i
+    → front ++ parts_after conflict runs phase (drop i steps) ≡ parts_after conflict runs [] steps → all ≡ front ++ ended phase
+    → all ≡ parts_from conflict runs [] steps
+all_parts conflict runs steps i phase front all end so_far last =
+    last
+    ∙ (ap (λ rest. front ++ parts_after conflict runs phase rest) (sym (drop_all i steps end))
+    ∙ (so_far ∙ sym (parts_are conflict runs steps)))

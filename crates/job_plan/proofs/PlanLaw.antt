@@ -1,5 +1,5 @@
 -- The parts of a frame by the plan of a scenario are those of the scenario.
-use Rattle.std.proofs.Common.{◌≡◌, ℕ, zero, suc, Bool, true, false, List, [], ◌∷◌, map, Option, Some, None, refl, sym, ap, ap₂, ◌∙◌, subst}
+use Rattle.std.proofs.Common.{◌≡◌, ℕ, zero, suc, false, List, [], ◌∷◌, map, Option, Some, None, refl, ap, ap₂, ◌∙◌, subst}
 use Rattle.std.specs.Prelude.{slice_get, option_map, unwrap_or}
 use Rattle.std.specs.List.{AllByRecursion}
 use Rattle.std.proofs.lemmas.List.Elements.{recursion_from_All}
@@ -12,7 +12,7 @@ use Rattle.scenario_faults.specs.Touched.{written, access_of}
 use Rattle.run_model.specs.Tasks.{runs_in}
 use Rattle.run_model.specs.FrameParts.{parts_from, do_conflict as do_systems_conflict, conflict_at, does_run, runs_at, frame_parts}
 use Rattle.job_plan.specs.PlanParts.{do_conflict, access_conflict_at, is_running}
-use Rattle.job_plan.proofs.Conflicts.{AreSmall, written_small, same_conflict}
+use Rattle.job_plan.proofs.TouchedSets.{AreSmall, written_small, same_conflict}
 
 get_map : {A B : Type 0} (f : A → B) (xs : List A) (n : ℕ) → slice_get (map f xs) n ≡ option_map f (slice_get xs n)
 get_map f [] n = refl

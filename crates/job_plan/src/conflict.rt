@@ -6,7 +6,7 @@ ghost use Rattle.run_model.specs.Phases.{accesses_conflict};
 use scenario_record::Access;
 
 /// `true` if the first system writes a type that the other writes, reads or names.
-#[tactic(auto, using(crate::proofs::Conflicts::meets_both))]
+#[tactic(auto, using(crate::proofs::TouchedSets::meets_both))]
 fn disturbs(a: &Access, b: &Access) -> bool
     ensures { result ≡ meets a.now.writes (b.now.writes ++ (b.now.reads ++ b.now.named)) }
 {

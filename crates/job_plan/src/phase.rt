@@ -125,7 +125,6 @@ fn add_step(
 ///
 /// `access` says what each system touches, and `running` says which systems run, both by the systems' numbers. It takes
 /// as many steps as there are pairs of a system and one of the phase that it meets.
-#[tactic(auto, using(crate::proofs::Parts::parts_are))]
 pub fn phases(
     alloc: Global,
     steps: &[Step],

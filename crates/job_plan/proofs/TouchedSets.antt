@@ -1,9 +1,8 @@
 -- Types that two systems touch, as lists and as sets.
-use Rattle.std.proofs.Common.{◌≡◌, ℕ, ◌<◌, ◌≤◌, Bool, true, false, cond, ◌||◌, ◌&&◌, List, [], ◌∷◌, ◌++◌, map, eqb, ltb, length, refl, sym, ap, ap₂, ◌∙◌, subst, arith, inl, inr}
+use Rattle.std.proofs.Common.{◌≡◌, ℕ, ◌<◌, ◌≤◌, Bool, true, false, cond, ◌||◌, List, [], ◌∷◌, ◌++◌, map, eqb, ltb, length, refl, sym, ap, ap₂, ◌∙◌, subst, arith}
 use Rattle.std.specs.Prelude.{nat_lt}
-use Rattle.std.specs.List.{list_all, list_any}
+use Rattle.std.specs.List.{list_all}
 use Rattle.std.proofs.lemmas.Bool.{and_parts, eqb-true, ltb-false, ltb-true, lt-ltb, ne_eqb}
-use Rattle.std.proofs.lemmas.List.{map-append}
 use Rattle.std.proofs.lemmas.List.Folds.{list_any-append}
 use Rattle.ent_types.specs.declared.type_info.TypeInfo.{TypeInfo}
 use Rattle.ent_types.specs.TypeSets.{has_type, with_type, meets}
@@ -16,9 +15,9 @@ use Rattle.scenario_record.specs.Lawful.{clause_types, is_bound, IsLawfulSystem}
 use Rattle.scenario_record.specs.TextNames.{assign_fits, switch_fits}
 use Rattle.scenario_faults.specs.Found.{put_type, with_types, set_of}
 use Rattle.scenario_faults.specs.Touched.{written, access_of}
-use Rattle.run_model.specs.Job.{Text, Assigns, Switches, written_type, writes}
+use Rattle.run_model.specs.Job.{Assigns, Switches, written_type, writes}
 use Rattle.run_model.specs.Phases.{reads, touches, conflicts, accesses_conflict}
-use Rattle.run_model.specs.Touched.{read_by, named_types}
+use Rattle.run_model.specs.Touched.{named_types}
 
 or_apart : (a b c d : Bool) → ((a || b) || (c || d)) ≡ ((a || c) || (b || d))
 or_apart true b c d = refl
