@@ -3,3 +3,4 @@ pub mod Entries
 pub mod Versions
 pub mod Suits
 pub mod Lawful
+pub mod Runnable

@@ -1,2 +1,4 @@
 pub mod Kept
 pub mod Runs
+pub mod Ordered
+pub mod CycleExamples

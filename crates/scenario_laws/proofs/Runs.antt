@@ -13,7 +13,8 @@ use Rattle.scenario_record.specs.Faults.{bad}
 use Rattle.scenario_record.specs.Readings.{Reading, unless}
 use Rattle.scenario_record.specs.Runnable.{IsRunnable}
 use Rattle.scenario_read.specs.ReadScenario.{scenario_of}
-use Rattle.scenario_faults.specs.Checks.{at_element, first_of, names_fault, parents_fault, siblings_fault, each_fault_from, spawn_fault, crowded_from, spawns_fault, lookups_fault, events_fault, first_fault}
+use Rattle.scenario_faults.specs.Checks.{at_element, names_fault, parents_fault, siblings_fault, each_fault_from, spawn_fault, crowded_from, spawns_fault, lookups_fault, events_fault, first_fault}
+use Rattle.scenario_faults.proofs.FaultLemmas.{neither_of}
 use Rattle.scenario_check.specs.Planned.{planned, checked}
 use Rattle.scenario_check.specs.Built.{is_built}
 use Rattle.read_laws.proofs.Inversions.{whole_ok}
@@ -22,17 +23,13 @@ use Rattle.scenario_laws.proofs.Kept.{begins_with_one}
 
 -- ---- what passes has no fault
 
-passed_ok : (first : Option BadScenario) (plan : Reading Plan) (p : Plan) → unless first plan ≡ Ok p → first ≡ None
+pub passed_ok : (first : Option BadScenario) (plan : Reading Plan) (p : Plan) → unless first plan ≡ Ok p → first ≡ None
 passed_ok None plan p is = refl
 passed_ok (Some f) plan p is = absurd cc
 
-no_fault : (s : Scenario) (p : Plan) → checked s ≡ Ok p → first_fault s ≡ None
+pub no_fault : (s : Scenario) (p : Plan) → checked s ≡ Ok p → first_fault s ≡ None
 unfolding checked
 no_fault s p is = passed_ok (first_fault s) (planned s) p (whole_ok (unless (first_fault s) (planned s)) p is)
-
-neither_of : (first : Option BadScenario) (later : List (Option BadScenario)) → first_of (first ∷ later) ≡ None → (first ≡ None) × (first_of later ≡ None)
-neither_of None later is = (refl, is)
-neither_of (Some f) later is = absurd cc
 
 no_spawn_fault : (s : Scenario) → first_fault s ≡ None → spawns_fault s ≡ None
 no_spawn_fault s is =

@@ -1,0 +1,1 @@
+//! The texts of a system on the rows of a block.

@@ -1,0 +1,3 @@
+pub mod TouchedSets
+pub mod Parts
+pub mod PlanLaw
