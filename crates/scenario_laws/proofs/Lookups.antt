@@ -1,8 +1,7 @@
 -- A system without that fault looks up no type that it writes.
-use Rattle.std.proofs.Common.{ℕ, ◌≡◌, ◌<◌, List, [], ◌∷◌, ◌++◌, Bool, true, false, ◌||◌, cond, map, Option, None, eqb, inl, inr, refl, sym, ap, ◌∙◌, arith}
-use Rattle.std.specs.Prelude.{nat_lt, ◌==◌}
-use Rattle.std.specs.List.{flat_map}
-use Rattle.std.proofs.lemmas.Bool.{both_ways, ltb-false, or_left, or_right, ne_eqb}
+use Rattle.std.proofs.Common.{ℕ, ◌≡◌, ◌<◌, List, [], ◌∷◌, ◌++◌, Bool, true, false, ◌||◌, cond, map, None, eqb, inl, refl, sym, ap, ◌∙◌, arith}
+use Rattle.std.specs.Prelude.{nat_lt}
+use Rattle.std.proofs.lemmas.Bool.{both_ways, ltb-false, ne_eqb}
 use Rattle.ent_types.specs.declared.limits.TheConstants.{MOST_TYPES}
 use Rattle.ent_types.specs.TypeSets.{has_type, with_type, meets}
 use Rattle.ent_types.proofs.TypeSetLemmas.{has_type-with_type}
@@ -14,9 +13,8 @@ use Rattle.scenario_record.specs.Uses.{looked_up, uses_of}
 use Rattle.scenario_faults.specs.Found.{put_type, with_types, set_of, looked_up_types}
 use Rattle.scenario_faults.specs.Touched.{written, looked_up_by}
 use Rattle.scenario_faults.specs.Checks.{lookup_fault}
-use Rattle.world_model.specs.Members.{In}
 use Rattle.world_laws.proofs.Types.{has_in}
-use Rattle.run_model.specs.Job.{Text, Assigns, Switches, written_type, writes}
+use Rattle.run_model.specs.Job.{Assigns, Switches, written_type, writes}
 use Rattle.run_laws.proofs.Lists.{in_has}
 use Rattle.scenario_laws.proofs.Faults.{not_faulty}
 use Rattle.scenario_laws.proofs.Members.{fails, in_flattened}

@@ -7,7 +7,7 @@ use Rattle.ent_types.specs.declared.type_info.FieldInfo.{FieldInfo}
 use Rattle.ent_types.specs.declared.type_info.TypeInfo.{TypeInfo}
 use Rattle.ent_types.specs.declared.kinds.FieldKind.{FieldKind}
 use Rattle.ent_types.specs.Types.{is_ref_kind}
-use Rattle.ent_types.specs.TypeLookups.{fields_at, is_buffer_at, is_shared_at, is_enableable_at, has_column_at}
+use Rattle.ent_types.specs.TypeLookups.{fields_at, has_column_at}
 use Rattle.expr_eval.specs.Conditions.{reads, reads_step}
 use Rattle.expr_trees.specs.declared.tree.Expr.{Expr}
 use Rattle.expr_trees.specs.declared.tree.Expr.TheOpen.{Expr-F}
@@ -20,7 +20,7 @@ use Rattle.expr_trees.specs.declared.tree.ValueExpr.TheVariants as values
 use Rattle.expr_trees.specs.declared.tree.PartExpr.{PartExpr}
 use Rattle.expr_trees.specs.declared.tree.CommandText.{CommandText}
 use Rattle.expr_trees.specs.declared.tree.CommandText.TheVariants as texts
-use Rattle.scenario_record.specs.TextNames.{Names, none_made, is_known, is_scene_tag, ref_fits, fits_step, expr_fits, value_fits, values_fit, part_fits, new_part_fits, new_parts_fit, command_fits}
+use Rattle.scenario_record.specs.TextNames.{Names, none_made, is_known, ref_fits, fits_step, expr_fits, value_fits, values_fit, part_fits, new_part_fits, new_parts_fit, command_fits}
 use Rattle.scenario_record.specs.Uses.{Use, looked_up, in_ref, expr_step, in_expr, in_value, in_part, in_act}
 use Rattle.world_model.specs.Members.{In}
 use Rattle.world_laws.proofs.Members.{in_left, in_right}

@@ -1,15 +1,13 @@
 -- A scenario that is read and passes its checks can be run.
-use Rattle.std.proofs.Common.{ℕ, ◌≡◌, ◌≤◌, ◌+◌, List, [], ◌∷◌, Bool, true, false, cond, not, ◌&&◌, Option, None, Some, Ok, refl, arith}
+use Rattle.std.proofs.Common.{ℕ, ◌≡◌, ◌≤◌, ◌+◌, List, [], ◌∷◌, Bool, true, false, cond, not, ◌&&◌, None, Some, Ok, refl, arith}
 use Rattle.std.specs.Prelude.{nat_lt, codes}
 use Rattle.std.specs.List.{sum_by}
 use Rattle.std.proofs.lemmas.Bool.{ltb-false}
 use Rattle.std.proofs.lemmas.List.Sums.{sum_by-cons}
 use Rattle.scenario_record.specs.declared.fault.Cause.TheVariants.{TooManyEntities}
 use Rattle.scenario_record.specs.declared.plan.Plan.{Plan}
-use Rattle.scenario_record.specs.declared.record.EventEntry.{EventEntry}
 use Rattle.scenario_record.specs.declared.record.Scenario.{Scenario}
 use Rattle.scenario_record.specs.declared.record.SpawnEntry.{SpawnEntry}
-use Rattle.scenario_record.specs.declared.record.SystemEntry.{SystemEntry}
 use Rattle.scenario_record.specs.Faults.{bad}
 use Rattle.scenario_record.specs.Lawful.{IsLawfulScenario, IsLawfulSpawn, IsLawfulSystem, IsLawfulEvent}
 use Rattle.scenario_record.specs.Runnable.{IsRunnable as CanBeRun}
