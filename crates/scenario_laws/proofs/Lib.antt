@@ -1,7 +1,7 @@
 pub mod Kept
 mod Members
 mod Faults
-mod Reads
+mod TextReads
 mod Suits
 mod Lookups
 mod Rooms

@@ -18,7 +18,7 @@ use Rattle.run_model.specs.Job.{Assigns, Switches, written_type, writes}
 use Rattle.run_laws.proofs.Lists.{in_has}
 use Rattle.scenario_laws.proofs.Faults.{not_faulty}
 use Rattle.scenario_laws.proofs.Members.{fails, in_flattened}
-use Rattle.scenario_laws.proofs.Reads.{Looks}
+use Rattle.scenario_laws.proofs.TextReads.{Looks}
 
 -- ---- sets of types
 

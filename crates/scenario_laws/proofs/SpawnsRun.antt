@@ -1,5 +1,5 @@
 -- Each spawn that was read and has room can be made, and each event that was read can be done.
-use Rattle.std.proofs.Common.{ℕ, ◌≡◌, List, Bool, true, map, None, sym, subst}
+use Rattle.std.proofs.Common.{ℕ, ◌≡◌, List, Bool, map, None, sym, subst}
 use Rattle.std.proofs.lemmas.Bool.{and_parts, false≢true}
 use Rattle.ent_types.specs.declared.type_info.TypeInfo.{TypeInfo}
 use Rattle.ent_types.specs.TypeLookups.{is_enableable_at}
@@ -19,7 +19,7 @@ use Rattle.world_laws.proofs.Types.{has_in}
 use Rattle.run_laws.specs.Runnable.{no_sources, SpawnRuns, ActRuns}
 use Rattle.run_laws.specs.Suits.{PartSuits}
 use Rattle.scenario_laws.proofs.Members.{passes}
-use Rattle.scenario_laws.proofs.Reads.{Gives, parts_reading, act_reading}
+use Rattle.scenario_laws.proofs.TextReads.{Gives, parts_reading, act_reading}
 use Rattle.scenario_laws.proofs.Rooms.{has_room}
 use Rattle.scenario_laws.proofs.Suits.{parts_suit, parts_once, act_suits}
 

@@ -24,13 +24,12 @@ use Rattle.scenario_record.specs.Uses.{in_expr, in_act, in_assign, in_switch, in
 use Rattle.scenario_faults.specs.Checks.{lookup_fault}
 use Rattle.world_model.specs.Members.{In}
 use Rattle.world_laws.proofs.Types.{has_in}
-use Rattle.run_model.specs.Job.{writes}
 use Rattle.run_model.specs.LawfulQuery.{query_types, IsLawfulQuery, IsWatched, IsShared, IsLawfulFilter}
 use Rattle.run_laws.specs.Runnable.{sources_of, ExprReads, AssignRuns, SwitchRuns, SystemReads, SystemRuns}
 use Rattle.run_laws.specs.Suits.{SystemSuits}
 use Rattle.scenario_laws.proofs.Lookups.{IsUnwritten, looks_clear}
 use Rattle.scenario_laws.proofs.Members.{are_distinct, passes}
-use Rattle.scenario_laws.proofs.Reads.{Gives, Looks, looks_left, looks_right, looks_at, expr_reading, value_reading, act_reading}
+use Rattle.scenario_laws.proofs.TextReads.{Gives, Looks, looks_left, looks_right, looks_at, expr_reading, value_reading, act_reading}
 use Rattle.scenario_laws.proofs.Suits.{column_is_flat, shared_is_flat, values_are_flat, value_of_kind, act_suits}
 
 fit_flat : (info : TypeInfo) (vs : List Value) → is_buffer info.kind ≡ false → fits_fields info.fields vs ≡ true → fits_type info vs ≡ true

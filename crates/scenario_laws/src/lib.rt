@@ -32,7 +32,6 @@ pub fn what_passes_can_be_run()
 {}
 
 /// Each scenario that was read and passes its checks has what its run asks of it.
-#[tactic(auto, using(crate::proofs::Runs::is_runnable))]
 pub fn what_passes_is_runnable()
     ensures { (bytes : List ℕ) (s : Scenario) (plan : Plan) → scenario_of bytes ≡ Ok s → checked s ≡ Ok plan → IsRunnable s }
 {}
