@@ -1,4 +1,3 @@
 mod Ends
 mod Merged
 mod Numerals
-mod Plans

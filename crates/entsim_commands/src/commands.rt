@@ -13,7 +13,7 @@ use ent_types::limits::{LONGEST_SCENARIO, MOST_SYSTEMS};
 use plain_text::write_world;
 use plain_world::run_scenario;
 use scenario_check::{check, is_built};
-use scenario_laws::{what_is_read_can_be_checked, what_passes_can_be_run};
+use scenario_laws::{what_is_read_can_be_checked, what_passes_can_be_run, what_passes_is_ordered};
 use scenario_read::read_scenario;
 use scenario_record::{Plan, Scenario};
 use std::alloc::Global;
@@ -48,6 +48,7 @@ fn checked_from(alloc: Global, bytes: &[u8]) -> Result<Checked, Stop>
 {
     what_is_read_can_be_checked();
     what_passes_can_be_run();
+    what_passes_is_ordered();
     let scenario = read_scenario(alloc, bytes)?;
     let plan = check(alloc, &scenario)?;
     Ok(Checked { scenario, plan })

@@ -1,1 +1,3 @@
 pub mod BuiltLemmas
+pub mod ChildLemmas
+pub mod OrderLemmas

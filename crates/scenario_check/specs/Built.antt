@@ -1,5 +1,5 @@
 -- Which scenarios are of a form that is run.
-use Rattle.std.specs.Prelude.{ℕ, Bool, true, false, not, ◌&&◌, ◌||◌, ◌==◌, nat_lt, List, [], length, drop, map, flat_map}
+use Rattle.std.specs.Prelude.{ℕ, Bool, true, false, not, ◌&&◌, ◌||◌, ◌==◌, nat_lt, List, length, drop, map, flat_map}
 use Rattle.std.specs.List.{list_any, list_all}
 use Rattle.ent_types.specs.declared.entity.TheConstants.{BUILT_IN_TYPES}
 use Rattle.ent_types.specs.declared.kinds.Kind.{Kind}

@@ -3,6 +3,8 @@
 
 mod built;
 mod checking;
+mod children;
+mod planning;
 
 pub use built::is_built;
 pub use checking::check;

@@ -11,12 +11,7 @@ use std::alloc::Global;
 
 /// Returns the same fault, seen from the table that has the list with this element.
 #[tactic(auto, using(crate::proofs::FaultLemmas::moved_twice))]
-pub(crate) fn at_element(
-    alloc: Global,
-    key: &str,
-    place: usize,
-    fault: ScenarioFault,
-) -> ScenarioFault
+pub fn at_element(alloc: Global, key: &str, place: usize, fault: ScenarioFault) -> ScenarioFault
     ensures { IsMoved (at_element key.now place) fault result }
 {
     let fault = below_place(alloc, place, fault);

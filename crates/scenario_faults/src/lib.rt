@@ -9,3 +9,5 @@ pub mod names;
 pub mod siblings;
 pub mod spawns;
 pub mod uses;
+
+pub use each::at_element;

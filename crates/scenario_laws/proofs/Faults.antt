@@ -9,12 +9,13 @@ use Rattle.scenario_record.specs.declared.record.Scenario.{Scenario}
 use Rattle.scenario_record.specs.declared.record.SpawnEntry.{SpawnEntry}
 use Rattle.scenario_record.specs.declared.record.SystemEntry.{SystemEntry}
 use Rattle.scenario_record.specs.Readings.{Reading, unless, fault_if}
-use Rattle.scenario_faults.specs.Checks.{at_element, first_of, names_fault, parents_fault, siblings_fault, each_fault_from, spawn_fault, crowded_from, spawns_fault, lookup_fault, lookups_fault, events_fault, first_fault}
+use Rattle.scenario_faults.specs.Checks.{at_element, names_fault, parents_fault, siblings_fault, each_fault_from, spawn_fault, crowded_from, spawns_fault, lookup_fault, lookups_fault, events_fault, first_fault}
+use Rattle.scenario_faults.proofs.FaultLemmas.{neither_of}
 use Rattle.scenario_check.specs.Planned.{planned, checked}
 use Rattle.read_laws.proofs.Inversions.{whole_ok}
 use Rattle.world_model.specs.Members.{In}
 
-passed_ok : (first : Option BadScenario) (plan : Reading Plan) (p : Plan) → unless first plan ≡ Ok p → first ≡ None
+pub passed_ok : (first : Option BadScenario) (plan : Reading Plan) (p : Plan) → unless first plan ≡ Ok p → first ≡ None
 passed_ok None plan p is = refl
 passed_ok (Some f) plan p is = absurd cc
 
@@ -23,10 +24,6 @@ unfolding checked
 no_fault s p is = passed_ok (first_fault s) (planned s) p (whole_ok (unless (first_fault s) (planned s)) p is)
 
 -- ---- one test after another
-
-neither_of : (first : Option BadScenario) (later : List (Option BadScenario)) → first_of (first ∷ later) ≡ None → (first ≡ None) × (first_of later ≡ None)
-neither_of None later is = (refl, is)
-neither_of (Some f) later is = absurd cc
 
 none_mapped : (step : BadScenario → BadScenario) (fault : Option BadScenario) → option_map step fault ≡ None → fault ≡ None
 none_mapped step None is = refl

@@ -54,7 +54,7 @@ unfolding scenario_of
 begins_with_one bytes s is = document_ok (document_of bytes) s is
 
 pub can_be_checked : (bytes : List ℕ) (s : Scenario) → scenario_of bytes ≡ Ok s → IsRead s
-can_be_checked bytes s is = record { systems = (is_lawful_scenario bytes s is).system_few }
+can_be_checked bytes s is = let lawful = is_lawful_scenario bytes s is in record { groups = lawful.group_few; systems = lawful.system_few }
 
 pub has_lawful_registry : (bytes : List ℕ) (s : Scenario) → scenario_of bytes ≡ Ok s → IsLawfulRegistry s.registry
 has_lawful_registry bytes s is = (is_lawful_scenario bytes s is).registry

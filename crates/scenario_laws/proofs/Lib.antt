@@ -8,3 +8,4 @@ mod Rooms
 mod SystemsRun
 mod SpawnsRun
 pub mod Runs
+pub mod Ordered

@@ -1,6 +1,6 @@
 use Rattle.std.proofs.Common.{◌≡◌, map, take}
 use Rattle.scenario_faults.specs.Touched.{access_of}
-use Rattle.scenario_check.proofs.checking.access_of_each.Given as goal
+use Rattle.scenario_check.proofs.planning.access_of_each.Given as goal
 
 -- the systems so far
 abbrev pub invariant-loop-system : goal.invariant-loop-system
