@@ -1,4 +1,12 @@
 pub mod Kept
+mod Members
+mod Faults
+mod TextReads
+mod Suits
+mod Lookups
+mod Rooms
+mod SystemsRun
+mod SpawnsRun
 pub mod Runs
 pub mod Ordered
 pub mod CycleExamples

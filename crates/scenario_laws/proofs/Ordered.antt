@@ -27,7 +27,7 @@ use Rattle.run_model.specs.Steps.{root_names, group_number, group_child, system_
 use Rattle.run_laws.proofs.Moments.{groups_first, length_children, length_steps}
 use Rattle.scenario_check.specs.Planned.{at_child, cycle_fault, plan_of, ordered, planned, checked}
 use Rattle.read_laws.proofs.Inversions.{whole_ok}
-use Rattle.scenario_laws.proofs.Runs.{passed_ok, no_fault}
+use Rattle.scenario_laws.proofs.Faults.{passed_ok, no_fault}
 
 -- ---- the place of a name that is among the first names
 

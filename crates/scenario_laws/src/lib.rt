@@ -7,8 +7,9 @@ ghost use Rattle.std.specs.Prelude.{◌≡◌, ℕ, ◌+◌, ◌≤◌, List, le
 ghost use Rattle.ent_types.specs.Registries.{IsLawfulRegistry};
 ghost use Rattle.scenario_record.specs.declared.plan.Plan.{Plan};
 ghost use Rattle.scenario_record.specs.declared.record.Scenario.{Scenario};
-ghost use Rattle.scenario_record.specs.Runnable.{IsRunnable};
+ghost use Rattle.scenario_record.specs.Runnable.{IsRunnable as CanBeRun};
 ghost use Rattle.run_model.specs.Steps.{IsOrdered};
+ghost use Rattle.run_laws.specs.Runnable.{IsRunnable};
 ghost use Rattle.scenario_read.specs.ReadScenario.{scenario_of};
 ghost use Rattle.scenario_check.specs.Read.{IsRead};
 ghost use Rattle.scenario_check.specs.Planned.{plan_of, checked};
@@ -27,7 +28,12 @@ pub fn what_is_read_has_a_lawful_registry()
 /// Each scenario that was read, passes its checks and is of a form that is run, can be run.
 #[tactic(auto, using(crate::proofs::Runs::can_be_run))]
 pub fn what_passes_can_be_run()
-    ensures { (bytes : List ℕ) (s : Scenario) (plan : Plan) → scenario_of bytes ≡ Ok s → checked s ≡ Ok plan → is_built s ≡ true → IsRunnable s }
+    ensures { (bytes : List ℕ) (s : Scenario) (plan : Plan) → scenario_of bytes ≡ Ok s → checked s ≡ Ok plan → is_built s ≡ true → CanBeRun s }
+{}
+
+/// Each scenario that was read and passes its checks has what its run asks of it.
+pub fn what_passes_is_runnable()
+    ensures { (bytes : List ℕ) (s : Scenario) (plan : Plan) → scenario_of bytes ≡ Ok s → checked s ≡ Ok plan → IsRunnable s }
 {}
 
 /// The groups of each scenario that passes its checks can be ordered. Its plan has the steps of this order, each system
