@@ -1,9 +1,10 @@
 //! Items.
 ghost use Rattle.std.specs.Prelude.{◌≡◌};
 ghost use Rattle.world_loans.specs.Fitting.{AreFitting};
-ghost use Rattle.item_run.specs.Items.{Finishes, IsItem, registry_of};
+ghost use Rattle.item_run.specs.ItemRows.{registry_of};
+ghost use Rattle.item_run.specs.Items.{Finishes, IsItem};
 
-use crate::texts::do_texts;
+use crate::texts::{Context, do_texts};
 use chunk_block::Loan;
 use enable_bits::Mask;
 use scenario_record::SystemEntry;
@@ -60,7 +61,13 @@ impl<'a> Item<'a> {
     pub fn finish(&mut self)
         ensures { Finishes self.old self.new }
     {
-        do_texts(self.frozen, self.system, self.item, self.frame, &self.left, &mut self.loan);
+        let context = Context {
+            frozen: self.frozen,
+            left: self.left,
+            item: self.item,
+            frame: self.frame,
+        };
+        do_texts(&context, self.system, &mut self.loan);
         self.left = Mask::empty();
     }
 

@@ -80,6 +80,12 @@ module _ (w : Tables) (f : IsFrozen w) where
       let (vs, is, fits) = shared_part w.registry (home_of b) (home_frozen b i) t shared (has_in t b.block.types has) in
       of_in n (λ c. IsSome (part_at t c.shared)) w.store.blocks (numbers_distinct w f) b i number (subst (λ o. IsSome o) (sym is) refl)
 
+  pub home_seen : (n : ℕ) → HasBlock n (λ _. ⊤) (state_of w) → HasBlock n (λ b. IsLawfulHome w.registry b.home) (state_of w)
+  home_seen n there =
+      let (b, i, number, any) = of_member n (λ _. ⊤) w.store.blocks (of_numbered n (λ _. ⊤) w.store.blocks there) in
+      to_numbered n (λ c. IsLawfulHome w.registry c.home) w.store.blocks
+      (of_in n (λ c. IsLawfulHome w.registry (home_of c)) w.store.blocks (numbers_distinct w f) b i number (home_frozen b i))
+
   blank_lent : (b : Numbered) → In b w.store.blocks → AreBlank (lent_of (frozen_of w) b.number) b.block.rows
   blank_lent b i = by (in_map (lent_by f.types) b f.before (subst (In b) f.blocks i))
     where

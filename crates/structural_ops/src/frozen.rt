@@ -3,6 +3,7 @@ ghost use Rattle.std.specs.Prelude.{◌≡◌, ◌-◌, ◌≤◌, ⊤, [], map,
 ghost use Rattle.ent_types.specs.TypeLookups.{is_buffer_at, is_shared_at};
 ghost use Rattle.ent_types.specs.TypeSets.{has_type};
 ghost use Rattle.world_model.specs.Found.{part_at};
+ghost use Rattle.world_model.specs.Lawful.{IsLawfulHome};
 ghost use Rattle.world_model.specs.Members.{In};
 ghost use Rattle.world_model.specs.Reads.{element_of, elements_of};
 ghost use Rattle.chunk_block.specs.Blocks.{LoanState, IsLoanOf};
@@ -106,6 +107,7 @@ impl Frozen {
         requires { HasBlock number (λ _. ⊤) self.now.state }
         ensures block { HasBlock number (λ b. result.now ≡ lent_block self.now.state.world.registry (lent_of self.now number) b) self.now.state }
         ensures blank { HasBlock number (λ b. AreBlank (lent_of self.now number) b.rows) self.now.state }
+        ensures home { HasBlock number (λ b. IsLawfulHome self.now.state.world.registry b.home) self.now.state }
     {
         self.tables.store.is_sound();
         self.tables.store.block(number)
