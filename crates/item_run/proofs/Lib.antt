@@ -1,0 +1,4 @@
+pub mod RowByRow
+pub mod Columns
+pub mod Cells
+pub mod Seen
