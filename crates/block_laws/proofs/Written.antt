@@ -299,7 +299,7 @@ shapes_written t F (z ∷ zs) keeps = by (nat_eq z.shape.ty.0 t) (shapes_written
 
 -- ---- the writes of a loan
 
-all_written : (n : ℕ) (G : ℕ → Content → Content) (x : TypeState) → n ≡ length x.cells → Writes n (all_rows G) G x
+pub all_written : (n : ℕ) (G : ℕ → Content → Content) (x : TypeState) → n ≡ length x.cells → Writes n (all_rows G) G x
 all_written n G x size = record { same_shape = refl; cells = λ k within. get_or-at_places G x.cells k blank_cell (subst (λ m. k < m) size within) }
 
 -- only row `row` is changed

@@ -2,3 +2,4 @@ pub mod RowByRow
 pub mod Columns
 pub mod Cells
 pub mod Seen
+pub mod Done

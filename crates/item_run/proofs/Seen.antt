@@ -6,6 +6,7 @@ use Rattle.std.proofs.lemmas.Bool.{and_parts, eqb-true, ltb-true}
 use Rattle.std.proofs.lemmas.List.{get_or-map, length-map}
 use Rattle.ent_types.specs.declared.entity.Entity.{Entity}
 use Rattle.ent_types.specs.declared.entity.TypeId.{TypeId}
+use Rattle.ent_types.specs.declared.limits.TheConstants.{MOST_BLOCK_ROWS}
 use Rattle.ent_types.specs.declared.kinds.Kind.{Kind}
 use Rattle.ent_types.specs.declared.kinds.Kind.TheVariants.{Plain, Tag, Shared, Cleanup, Buffer}
 use Rattle.ent_types.specs.declared.type_info.FieldInfo.{FieldInfo}
@@ -17,6 +18,7 @@ use Rattle.ent_types.specs.TypeLookups.{fields_at, is_buffer_at, is_enableable_a
 use Rattle.ent_types.specs.TypeSets.{has_type}
 use Rattle.enable_bits.specs.Masks.{has}
 use Rattle.world_model.specs.Found.{part_at}
+use Rattle.world_model.specs.Lawful.{IsLawfulHome}
 use Rattle.world_model.specs.Members.{In}
 use Rattle.world_model.specs.Members.{AreDistinct as AreOnce}
 use Rattle.world_model.specs.Row.{Row, Cell, cell_type}
@@ -29,7 +31,7 @@ use Rattle.block_columns.specs.declared.shape.TypeShape.{TypeShape}
 use Rattle.block_eval.specs.Columns.{HoldsValues}
 use Rattle.block_laws.specs.Lending.{piece_types}
 use Rattle.block_laws.proofs.Rows.{have_there, rows_count}
-use Rattle.chunk_block.specs.Blocks.{AreDistinct, ArePiecesOf, BlockState, BlockType, HasShape, Lacks, OfType, column_types, content_at, no_row, row_in, shape_of}
+use Rattle.chunk_block.specs.Blocks.{AreDistinct, ArePiecesOf, BlockState, BlockType, HasShape, HaveTypes, Lacks, OfType, column_types, content_at, no_row, row_in, shape_of}
 use Rattle.chunk_block.specs.Pieces.{LacksPiece, OfPiece}
 use Rattle.expr_eval.specs.Values.{OwnRow}
 use Rattle.scenario_record.specs.TextNames.{has_field, has_values, is_known}
@@ -40,11 +42,13 @@ use Rattle.world_rows.proofs.PartsAre.{in_passed}
 use Rattle.world_rows.proofs.Filled.{values_length}
 use Rattle.world_loans.proofs.Cells.{cells_given, given}
 use Rattle.world_loans.proofs.Returned.{row_back}
+use Rattle.structural_ops.specs.Freezing.{AreBlank, lent_block, lent_of}
+use Rattle.structural_ops.specs.Numbered.{HasBlock}
 use Rattle.structural_ops.proofs.Homes.{shared_part}
 use Rattle.item_run.specs.Seats.{spot_at}
 use Rattle.item_run.specs.ItemRows.{AreLawfulRows, AreRows, RowsState, ShowsNothing, ShowsType, block_of, frozen_block, is_held, lent_types, own_row_at, registry_of, row_count, rows_of, seat_of, sources_in}
 use Rattle.item_run.proofs.Cells.{content_each, content_kept, content_none, field_own, field_shared, given_lacks, given_piece, on_is}
-use Rattle.item_run.proofs.Columns.{column_is, column_there, columns_are, lent_found, shape_found, type_found}
+use Rattle.item_run.proofs.Columns.{at_number, column_is, column_there, columns_are, lent_found, shape_found, type_found}
 
 -- ---- pieces of a block
 
@@ -139,7 +143,7 @@ module _ (x : RowsState) (rows : AreRows x) (lawful : AreLawfulRows x) where
 
   -- ---- one type
 
-  shape_here : (s : TypeShape) → HasShape s (block_of x).columns → (s ≡ shape_of (registry_of x) s.ty.0) × (has_type own s.ty.0 ≡ true)
+  pub shape_here : (s : TypeShape) → HasShape s (block_of x).columns → (s ≡ shape_of (registry_of x) s.ty.0) × (has_type own s.ty.0 ≡ true)
   shape_here s is =
       let (y, i, same) = shape_found s (block_of x).columns is in
       let type : y.shape.ty.0 ≡ s.ty.0 = ap (λ (z : TypeShape). z.ty.0) (sym same) in (
@@ -313,3 +317,25 @@ module _ (x : RowsState) (rows : AreRows x) (lawful : AreLawfulRows x) where
 
         pub on_blank : ShowsNothing ty.0 x → (own_row_at x k).on ty ≡ true
         on_blank nothing = on_bit ∙ ap (λ (c : Content). not c.off) (nothing.blank k below)
+
+-- ---- the rows of a new item
+
+module _ (x : RowsState) (rows : AreRows x) (n : ℕ) (number : n ≡ x.loan.number) (b : BlockState)
+    (shown : HasBlock n (λ c. b ≡ lent_block (registry_of x) (lent_of x.frozen n) c) x.frozen.state)
+    (home : HasBlock n (λ c. IsLawfulHome (registry_of x) c.home) x.frozen.state) (blank : HasBlock n (λ c. AreBlank (lent_of x.frozen n) c.rows) x.frozen.state)
+    (have : HaveTypes (column_types b.columns) b.rows) (few : length b.rows ≤ MOST_BLOCK_ROWS) where
+  pub block_is : b ≡ block_of x
+  block_is =
+      at_number x.loan.number (λ c. b ≡ lent_block (registry_of x) (lent_of x.frozen x.loan.number) c) x.frozen.state.numbers x.frozen.state.world.blocks
+      (subst (λ m. HasBlock m (λ c. b ≡ lent_block (registry_of x) (lent_of x.frozen m) c) x.frozen.state) number shown)
+
+  pub lawful_rows : AreLawfulRows x
+  lawful_rows = record {
+    home = at_number x.loan.number (λ c. IsLawfulHome (registry_of x) c.home) x.frozen.state.numbers x.frozen.state.world.blocks
+        (subst (λ m. HasBlock m (λ c. IsLawfulHome (registry_of x) c.home) x.frozen.state) number home);
+    have = subst (λ ts. HaveTypes ts (frozen_block x).rows) (columns_are (lent_types x) (registry_of x) (frozen_block x).home.types)
+        (subst (λ (s : BlockState). HaveTypes (column_types s.columns) s.rows) block_is have);
+    few = subst (λ (s : BlockState). length s.rows ≤ MOST_BLOCK_ROWS) block_is few;
+    blank = at_number x.loan.number (λ c. AreBlank (lent_of x.frozen x.loan.number) c.rows) x.frozen.state.numbers x.frozen.state.world.blocks
+        (subst (λ m. HasBlock m (λ c. AreBlank (lent_of x.frozen m) c.rows) x.frozen.state) number blank);
+  }
