@@ -31,7 +31,7 @@ use Rattle.expr_trees.specs.declared.tree.Switch.{Switch}
 use Rattle.expr_trees.specs.declared.tree.Expr.{Expr}
 use Rattle.expr_trees.specs.declared.tree.RefExpr.{RefExpr}
 use Rattle.expr_trees.specs.declared.tree.ValueExpr.{ValueExpr}
-use Rattle.expr_trees.specs.declared.tree.ValueExpr.TheVariants.{Int as IntExpr, Ref as RefExpr}
+use Rattle.expr_trees.specs.declared.tree.ValueExpr.TheVariants.{Int as IntExpr, Ref as RefValue}
 use Rattle.block_columns.specs.Columns.{HoldsNumbers, HoldsReferences, IsNumberKind, number_at, reference_at}
 use Rattle.block_columns.specs.Places.{at_places}
 use Rattle.block_columns.specs.Types.{Content, HasField, IsEnableable, TakesNumbers, TakesReferences, TypeState, all_rows, blank_cell, cell_in, kind_in, with_enabled_in, with_number_in, with_off, with_reference_in, with_value}
@@ -268,7 +268,7 @@ module _ (x : RowsState) (ready : AreReady x) (lawful : AreLawfulRows x) where
               (fits_if registry t (has left k) c (with_value f (fit kind (Int (number_at k zs))) c) (subst (λ u. FitsType registry u c) type fits)
               (value_fits registry t f (Int (number_at k zs)) plain c (subst (λ u. FitsType registry u c) type fits)))))
 
-    module _ (r : RefExpr) (is_reference : a.value ≡ RefExpr r) where
+    module _ (r : RefExpr) (is_reference : a.value ≡ RefValue r) where
       reference : kind ≡ KindRef
       reference = reference_kind kind (subst (IsOfKind kind) is_reference can.kind)
 

@@ -231,7 +231,7 @@ module _ (x : RowsState) (rows : AreRows x) (lawful : AreLawfulRows x) where
     field_shown column nothing =
         let parts = own_parts ty i has in
         let there : has_type own ty.0 ≡ true = own_there ty.0 parts.0 (apart (is_shared_at (registry_of x) ty.0) column) in
-        let both : (has_type own ty.0 && is_held x ty.0) ≡ true = rw (there, parts.1.1) refl in
+        let both : (has_type own ty.0 && is_held x ty.0) ≡ true = rw (there, parts.2) refl in
         absurd (cc (sym both ∙ nothing.none))
       where
         apart : (b : Bool) → not b ≡ true → b ≡ false
@@ -240,7 +240,7 @@ module _ (x : RowsState) (rows : AreRows x) (lawful : AreLawfulRows x) where
 
     pub has_column : (r : TypeState) → ShowsType ty.0 x r → HasField i r.shape
     has_column r shows =
-        let parts = field_parts (registry_of x) ty i (own_parts ty i has).1.0 in
+        let parts = field_parts (registry_of x) ty i (own_parts ty i has).1 in
         subst (HasField i) (sym shows.shape) (parts.1, subst (λ n. i < n) (sym (length-map (fields_at (registry_of x) ty.0) (λ (f : FieldInfo). f.kind))) parts.0)
 
     -- the values of a field
@@ -268,7 +268,7 @@ module _ (x : RowsState) (rows : AreRows x) (lawful : AreLawfulRows x) where
           let (us, same, fits) = shared_part (registry_of x) (frozen_block x).home lawful.home ty.0 shared parts.0 in
           let equal : us ≡ vs = same_some us vs (sym same ∙ is) in
           let size : length us ≡ length (fields_at (registry_of x) ty.0) = values_length (registry_of x) ty.0 us (shared_no_buffer (kind_at (registry_of x) ty.0) shared) fits in
-          subst (λ (ws : List Value). i < length ws) equal (subst (λ n. i < n) (sym size) (field_parts (registry_of x) ty i parts.1.0).0)
+          subst (λ (ws : List Value). i < length ws) equal (subst (λ n. i < n) (sym size) (field_parts (registry_of x) ty i parts.1).0)
         where
           same_some : (us ws : List Value) → Some us ≡ Some ws → us ≡ ws
           same_some us ws h = cc

@@ -101,10 +101,10 @@ pub record AreRowsOf (registry : List TypeInfo) (block : BlockState) (x : RowsSt
 -- ---- one type
 
 -- these are the cells of a type that isn't shared, in all rows
-pub record ShowsType (t : ℕ) (x : RowsState) (cells : TypeState) : Type 0 where
-  pub shape : cells.shape ≡ shape_of (registry_of x) t
-  pub size : length cells.cells ≡ row_count x
-  pub cells : (k : ℕ) → k < row_count x → cell_in k cells.cells ≡ content_at t (row_in k (rows_of x)).cells
+pub record ShowsType (t : ℕ) (x : RowsState) (s : TypeState) : Type 0 where
+  pub shape : s.shape ≡ shape_of (registry_of x) t
+  pub size : length s.cells ≡ row_count x
+  pub cells : (k : ℕ) → k < row_count x → cell_in k s.cells ≡ content_at t (row_in k (rows_of x)).cells
 
 -- the block lacks the type, or it is shared or lent to others
 pub record ShowsNothing (t : ℕ) (x : RowsState) : Type 0 where

@@ -48,7 +48,7 @@ pub record Rewrites (old new : LoanState) : Type 0 where
   pub of : (b : BlockState) → IsLoanOf b old → IsLoanOf b new
 
 -- texts were done on the rows of a mask, which left this loan
-pub record Does (x : RowsState) (texts : List Text) (rows : List ℕ) (new : LoanState) : Type 0 where
+pub record Does (x : RowsState) (texts : List Text) (mask : List ℕ) (new : LoanState) : Type 0 where
   pub loan : Rewrites x.loan new
   pub fit : AreFitting (registry_of x) new.pieces
-  pub rows : rows_of (record x { loan = new }) ≡ after_texts_on (seat_of x) texts rows (rows_of x)
+  pub rows : rows_of (record x { loan = new }) ≡ after_texts_on (seat_of x) texts mask (rows_of x)

@@ -24,9 +24,13 @@ pub struct Item<'a> {
 }
 
 impl<'a> Model for Item<'a> {
+    ghost use Rattle.std.specs.Coded.{codes};
+    ghost use Rattle.expr_trees.specs.contracts.tree.Expr as expr;
     ghost use Rattle.item_run.specs.Items.{ItemState, IsItem};
 
     ghost Value = { ItemState };
+
+    ghost coded = { Prim.hlevel (codes, expr.the_row.coded) };
 
     ghost view = { λ i. record { at = record { frozen = i.frozen.now; loan = i.loan; item = i.item; frame = i.frame }; system = i.system.now; left = i.left } };
 
