@@ -337,9 +337,9 @@ module _ (x : RowsState) (ready : AreReady x) (lawful : AreLawfulRows x) where
 
 -- ---- texts one after another
 
-after_append : (seat : Seat) (ts us : List Text) (mask : List ℕ) (rows : List Row) → after_texts_on seat (ts ++ us) mask rows ≡ after_texts_on seat us mask (after_texts_on seat ts mask rows)
-after_append seat [] us mask rows = refl
-after_append seat (t ∷ ts) us mask rows = after_append seat ts us mask (after_text_on seat t mask rows)
+after_append : (s : Seat) (ts us : List Text) (mask : List ℕ) (rows : List Row) → after_texts_on s (ts ++ us) mask rows ≡ after_texts_on s us mask (after_texts_on s ts mask rows)
+after_append s [] us mask rows = refl
+after_append s (t ∷ ts) us mask rows = after_append s ts us mask (after_text_on s t mask rows)
 
 module _ (x : RowsState) (new : LoanState) (loan : Rewrites x.loan new) where
   abbrev later : RowsState

@@ -3,3 +3,4 @@ pub mod Columns
 pub mod Cells
 pub mod Seen
 pub mod Done
+pub mod Held

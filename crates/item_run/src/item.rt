@@ -77,8 +77,8 @@ impl<'a> Item<'a> {
 
     /// Returns the loan as it stands. It takes no memory.
     pub fn take_apart(self) -> Loan
-        ensures value { result ≡ self.at.loan }
-        ensures fit { AreFitting (registry_of self.at) result.pieces }
+        ensures value { result ≡ self.entry.at.loan }
+        ensures fit { AreFitting (registry_of self.entry.at) result.pieces }
     {
         let Item { loan, .. } = self;
         loan

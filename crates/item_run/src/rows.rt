@@ -98,6 +98,8 @@ impl<'a> BlockRows for Rows<'a> {
     }
 
     fn column(&self, ty: TypeId, field: u8) -> ColumnSlice<'_> {
+        // By the invariant a field that is read and lies in a column is shown.
+        let _ = &self.block;
         match self.type_rows(ty) {
             Some(cells) => cells.column(field),
             None => unreachable!(),
