@@ -4,3 +4,4 @@ pub mod Cells
 pub mod Seen
 pub mod Done
 pub mod Held
+pub mod Systems
