@@ -4,6 +4,7 @@ use Rattle.std.specs.Prelude.{⊤, IfSome, MatchOption}
 use Rattle.std.proofs.lemmas.Bool.{and_parts, lt-ltb}
 use Rattle.ent_types.specs.declared.entity.Entity.{Entity}
 use Rattle.ent_types.specs.declared.entity.TypeId.{TypeId}
+use Rattle.ent_types.specs.declared.limits.TheConstants.{MOST_BLOCK_ROWS}
 use Rattle.ent_types.specs.declared.type_info.TypeInfo.{TypeInfo}
 use Rattle.ent_types.specs.declared.value.Value.{Value}
 use Rattle.ent_types.specs.TypeLookups.{is_enableable_at, is_shared_at}
@@ -23,7 +24,7 @@ use Rattle.chunk_block.specs.Pieces.{LacksPiece, OfPiece}
 use Rattle.structural_ops.specs.Numbered.{HasBlock}
 use Rattle.item_run.specs.ItemRows.{AreRowsOf, RowsState, ShowsNothing, ShowsType, frozen_block, own_row_at, registry_of, row_count, sources_in}
 use Rattle.item_run.proofs.Columns.{at_number, of_number}
-use Rattle.item_run.proofs.Seen.{entities_are, field_shown, field_values, has_column, on_always, on_blank, on_lacks, on_shown, own_parts, shared_length, shared_value, shows_bare, shows_nothing, shows_piece}
+use Rattle.item_run.proofs.Seen.{entities_are, field_shown, field_value, field_values, has_column, on_always, on_blank, on_lacks, on_shown, own_parts, shared_length, shared_value, shows_bare, shows_nothing, shows_piece}
 
 -- `y` is what contracts see of the rows `x`
 module _ {registry : List TypeInfo} {block : BlockState} {x : RowsState} (is : AreRowsOf registry block x) (y : RowsState) (view : x ≡ y) where
@@ -91,7 +92,17 @@ module _ {registry : List TypeInfo} {block : BlockState} {x : RowsState} (is : A
     column_there r shows = has_column y kept.rows kept.lawful ty i reads r shows
 
     pub column_values : (r : TypeState) (vs : List Value) → ShowsType ty.0 y r → vs ≡ map (λ c. value_at i c.values) r.cells → HoldsValues vs (row_count y) (λ k. (own_row_at y k).field ty i)
-    column_values r vs shows are = field_values y kept.rows kept.lawful ty i reads column r vs shows are
+    column_values r vs shows are = field_values y kept.rows kept.lawful ty i reads column r shows vs are
+
+    -- the value of a row in a field
+    pub column_value : (r : TypeState) → ShowsType ty.0 y r → (k : ℕ) → k < row_count y → value_at i (cell_in k r.cells).values ≡ (own_row_at y k).field ty i
+    column_value r shows k below = sym (field_value y kept.rows kept.lawful ty i reads column r shows k below)
+
+    pub row_within : (r : TypeState) → ShowsType ty.0 y r → (k : ℕ) → k < row_count y → k < length r.cells
+    row_within r shows k below = subst (λ n. k < n) (sym shows.size) below
+
+  pub few : (k : ℕ) → k < row_count y → k < MOST_BLOCK_ROWS
+  few k below = let most = kept.lawful.few in omega arith
 
   pub entities_here : (es : List Entity) → es ≡ map (λ r. r.entity) block.rows → HoldsReferences es (row_count y) (λ k. (own_row_at y k).me)
   entities_here es same =

@@ -243,22 +243,26 @@ module _ (x : RowsState) (rows : AreRows x) (lawful : AreLawfulRows x) where
         let parts = field_parts (registry_of x) ty i (own_parts ty i has).1 in
         subst (HasField i) (sym shows.shape) (parts.1, subst (λ n. i < n) (sym (length-map (fields_at (registry_of x) ty.0) (λ (f : FieldInfo). f.kind))) parts.0)
 
-    -- the values of a field
-    pub field_values : (not (is_shared_at (registry_of x) ty.0)) ≡ true → (r : TypeState) (vs : List Value) → ShowsType ty.0 x r → vs ≡ map (λ (c : Content). value_at i c.values) r.cells
-        → HoldsValues vs (row_count x) (λ k. (own_row_at x k).field ty i)
-    field_values column r vs shows are = record {
-      size = ap length are ∙ (length-map r.cells (λ (c : Content). value_at i c.values) ∙ shows.size);
-      values = λ k below.
+    module _ (column : not (is_shared_at (registry_of x) ty.0) ≡ true) (r : TypeState) (shows : ShowsType ty.0 x r) where
+      -- the value of a row in a field
+      pub field_value : (k : ℕ) → k < row_count x → (own_row_at x k).field ty i ≡ value_at i (cell_in k r.cells).values
+      field_value k below =
           let there : has_type own ty.0 ≡ true = own_there ty.0 (own_parts ty i has).0 (apart (is_shared_at (registry_of x) ty.0) column) in
-          ap (value_at k) are
-          ∙ (get_or-map (λ (c : Content). value_at i c.values) r.cells k blank_cell _ (subst (λ n. k < n) (sym shows.size) below)
-          ∙ (ap (λ (c : Content). value_at i c.values) (shows.cells k below)
-          ∙ sym (field_own (registry_of x) (spot_at (seat_of x) k) (frozen_block x).home (row_in k (rows_of x)).entity ty i (cells k below) (ap (λ ts. has_type ts ty.0) (types_are k below) ∙ there))));
-    }
-      where
-        apart : (b : Bool) → not b ≡ true → b ≡ false
-        apart true is = absurd (cc is)
-        apart false is = refl
+          field_own (registry_of x) (spot_at (seat_of x) k) (frozen_block x).home (row_in k (rows_of x)).entity ty i (cells k below) (ap (λ ts. has_type ts ty.0) (types_are k below) ∙ there)
+          ∙ ap (λ (c : Content). value_at i c.values) (sym (shows.cells k below))
+        where
+          apart : (b : Bool) → not b ≡ true → b ≡ false
+          apart true is = absurd (cc is)
+          apart false is = refl
+
+      -- the values of all rows
+      pub field_values : (vs : List Value) → vs ≡ map (λ (c : Content). value_at i c.values) r.cells → HoldsValues vs (row_count x) (λ k. (own_row_at x k).field ty i)
+      field_values vs are = record {
+        size = ap length are ∙ (length-map r.cells (λ (c : Content). value_at i c.values) ∙ shows.size);
+        values = λ k below.
+            ap (value_at k) are
+            ∙ (get_or-map (λ (c : Content). value_at i c.values) r.cells k blank_cell _ (subst (λ n. k < n) (sym shows.size) below) ∙ sym (field_value k below));
+      }
 
     -- the value of a field of a shared type
     module _ (shared : is_shared_at (registry_of x) ty.0 ≡ true) (vs : List Value) (is : part_at ty.0 (frozen_block x).home.shared ≡ Some vs) where

@@ -62,6 +62,11 @@ seat_of x = record {
 abbrev pub own_row_at : RowsState → ℕ → OwnRow
 own_row_at x k = row_seen (seat_of x) k (row_in k (rows_of x))
 
+-- one of the rows
+pub record RowState : Type 0 where
+  pub rows : RowsState
+  pub place : ℕ
+
 -- ---- what can be read
 
 -- the type is shared, in the loan, or lent to nobody
