@@ -1,5 +1,5 @@
 -- A block by its number, and the columns of a block of which types are lent.
-use Rattle.std.proofs.Common.{ℕ, ◌≡◌, ◌∙◌, ◌||◌, inl, inr, Bool, true, false, not, cond, nat_eq, sym, ap, ap₂, refl, subst, List, [], ◌∷◌, ◌++◌, map, filter}
+use Rattle.std.proofs.Common.{ℕ, ◌≡◌, ◌∙◌, ◌||◌, inl, inr, Bool, true, false, cond, nat_eq, sym, ap, ap₂, refl, List, [], ◌∷◌, ◌++◌, map}
 use Rattle.std.specs.Prelude.{⊤}
 use Rattle.std.specs.Bool.{MatchBool}
 use Rattle.std.proofs.lemmas.Bool.{eqb-true}
@@ -9,10 +9,10 @@ use Rattle.ent_types.specs.Types.{is_shared}
 use Rattle.ent_types.specs.TypeSets.{has_type}
 use Rattle.world_model.specs.Members.{In}
 use Rattle.world_model.specs.World.{Block}
-use Rattle.world_laws.proofs.Members.{in_map}
+use Rattle.world_laws.proofs.Members.{in_map, map_in}
+use Rattle.world_laws.proofs.NodeRows.{in_has}
 use Rattle.block_columns.specs.declared.shape.TypeShape.{TypeShape}
 use Rattle.chunk_block.specs.Blocks.{BlockType, HasShape, Lacks, OfType, column_types, lent_type, new_types, shape_of}
-use Rattle.block_laws.proofs.Rows.{itself}
 use Rattle.world_rows.specs.Rows.{own_types}
 use Rattle.world_loans.proofs.Shown.{columns_own}
 use Rattle.structural_ops.specs.Freezing.{block_at}
@@ -122,13 +122,6 @@ module _ (lent : List ℕ) where
         )
 
     pub column_there : (x : BlockType) (types : List ℕ) → In x (columns types) → has_type (own_types registry types) x.shape.ty.0 ≡ true
-    column_there x types i = ap (λ ts. has_type ts x.shape.ty.0) (sym (columns_are types)) ∙ among (columns types) i
-      where
-        or_true : (b : Bool) → (b || true) ≡ true
-        or_true true = refl
-        or_true false = refl
-
-        among : (xs : List BlockType) → In x xs → has_type (column_types xs) x.shape.ty.0 ≡ true
-        among [] j = absurd j
-        among (y ∷ ys) (inl same) = ap (λ b. b || has_type (column_types ys) x.shape.ty.0) (ap (λ (z : BlockType). nat_eq z.shape.ty.0 x.shape.ty.0) (sym same) ∙ itself x.shape.ty.0)
-        among (y ∷ ys) (inr j) = ap (λ b. nat_eq y.shape.ty.0 x.shape.ty.0 || b) (among ys j) ∙ or_true (nat_eq y.shape.ty.0 x.shape.ty.0)
+    column_there x types i =
+        ap (λ ts. has_type ts x.shape.ty.0) (sym (columns_are types))
+        ∙ in_has x.shape.ty.0 (column_types (columns types)) (map_in (λ (y : BlockType). y.shape.ty.0) x (columns types) i)

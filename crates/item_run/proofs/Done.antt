@@ -16,7 +16,7 @@ use Rattle.ent_types.specs.declared.value.Value.TheVariants.{Int, Ref}
 use Rattle.ent_types.specs.Fitting.{fit}
 use Rattle.ent_types.specs.Registries.{type_at}
 use Rattle.ent_types.specs.Types.{is_ref_kind}
-use Rattle.ent_types.specs.TypeLookups.{field_kind_at, fields_at, is_buffer_at, is_enableable_at, is_shared_at}
+use Rattle.ent_types.specs.TypeLookups.{field_kind_at, fields_at, is_buffer_at, is_shared_at}
 use Rattle.ent_types.specs.TypeSets.{has_type}
 use Rattle.enable_bits.specs.Masks.{has}
 use Rattle.world_model.specs.Found.{found}
@@ -30,7 +30,6 @@ use Rattle.expr_trees.specs.declared.tree.Assign.{Assign}
 use Rattle.expr_trees.specs.declared.tree.Switch.{Switch}
 use Rattle.expr_trees.specs.declared.tree.Expr.{Expr}
 use Rattle.expr_trees.specs.declared.tree.RefExpr.{RefExpr}
-use Rattle.expr_trees.specs.declared.tree.ValueExpr.{ValueExpr}
 use Rattle.expr_trees.specs.declared.tree.ValueExpr.TheVariants.{Int as IntExpr, Ref as RefValue}
 use Rattle.block_columns.specs.Columns.{HoldsNumbers, HoldsReferences, IsNumberKind, number_at, reference_at}
 use Rattle.block_columns.specs.Places.{at_places}
@@ -44,7 +43,7 @@ use Rattle.block_laws.specs.Lending.{Writes, piece_types}
 use Rattle.block_laws.proofs.Written.{all_written, cells_kept, piece_written, same_types, shapes_written}
 use Rattle.scenario_record.specs.TextNames.{has_field}
 use Rattle.world_places.proofs.Lists.{map_same}
-use Rattle.world_rows.proofs.Effects.{each_cell, one_changed}
+use Rattle.world_rows.proofs.Effects.{one_changed}
 use Rattle.world_loans.specs.Fitting.{AreFitting, FitsType}
 use Rattle.structural_ops.specs.Freezing.{block_at, is_lent, lent_block, lent_of}
 use Rattle.structural_ops.specs.Numbered.{HasBlock}
@@ -52,8 +51,8 @@ use Rattle.run_model.specs.Job.{Assigns, Switches, Text, fitted}
 use Rattle.run_laws.specs.Runnable.{ExprReads, Sources, ValueReads}
 use Rattle.run_laws.specs.Suits.{IsOfKind}
 use Rattle.run_laws.proofs.RunLawful.{set_keeps_fit}
-use Rattle.item_run.specs.Seats.{Seat, after_text_on, after_texts_on, row_seen, text_done}
-use Rattle.item_run.specs.ItemRows.{AreLawfulRows, AreRows, RowsState, block_of, frozen_block, own_row_at, registry_of, row_count, rows_of, seat_of, sources_in}
+use Rattle.item_run.specs.Seats.{Seat, after_text_on, after_texts_on, text_done}
+use Rattle.item_run.specs.ItemRows.{AreLawfulRows, AreRows, RowsState, block_of, own_row_at, registry_of, row_count, rows_of, seat_of, sources_in}
 use Rattle.item_run.specs.Writing.{AreReady, CanAssign, CanSwitch, Does, Rewrites}
 use Rattle.item_run.proofs.Seen.{count, field_parts, own_once, shape_here, types_are}
 

@@ -1,6 +1,6 @@
 -- What the code finds of the rows that it keeps.
-use Rattle.std.proofs.Common.{ℕ, ◌≡◌, ◌<◌, ◌≤◌, ◌∙◌, ◌&&◌, Bool, true, false, not, nat_lt, sym, ap, ap₂, refl, subst, List, map, length, Option, Some, None, arith}
-use Rattle.std.specs.Prelude.{⊤, IfSome, MatchOption}
+use Rattle.std.proofs.Common.{ℕ, ◌≡◌, ◌<◌, ◌∙◌, ◌&&◌, Bool, true, false, not, nat_lt, sym, ap, ap₂, refl, subst, List, map, length, Option, Some, None, arith}
+use Rattle.std.specs.Prelude.{IfSome, MatchOption}
 use Rattle.std.proofs.lemmas.Bool.{and_parts, lt-ltb}
 use Rattle.ent_types.specs.declared.entity.Entity.{Entity}
 use Rattle.ent_types.specs.declared.entity.TypeId.{TypeId}
@@ -12,19 +12,17 @@ use Rattle.ent_types.specs.TypeSets.{has_type}
 use Rattle.enable_bits.specs.Masks.{has, places_where}
 use Rattle.enable_bits.proofs.MaskLemmas.{has-places_where}
 use Rattle.world_model.specs.Found.{part_at}
-use Rattle.world_model.specs.Members.{In}
 use Rattle.world_model.specs.Row.{Row}
 use Rattle.world_laws.proofs.Types.{has_in}
 use Rattle.block_columns.specs.Columns.{HoldsReferences, value_at}
-use Rattle.block_columns.specs.Types.{Content, HasField, TypeState, cell_in}
-use Rattle.block_columns.specs.declared.shape.TypeShape.{TypeShape}
+use Rattle.block_columns.specs.Types.{HasField, TypeState, cell_in}
 use Rattle.block_eval.specs.Columns.{HoldsValues}
 use Rattle.chunk_block.specs.Blocks.{BlockState, Lacks, OfType, content_at}
 use Rattle.chunk_block.specs.Pieces.{LacksPiece, OfPiece}
 use Rattle.structural_ops.specs.Numbered.{HasBlock}
 use Rattle.item_run.specs.ItemRows.{AreRowsOf, RowsState, ShowsNothing, ShowsType, frozen_block, own_row_at, registry_of, row_count, sources_in}
 use Rattle.item_run.proofs.Columns.{at_number, of_number}
-use Rattle.item_run.proofs.Seen.{entities_are, field_shown, field_value, field_values, has_column, on_always, on_blank, on_lacks, on_shown, own_parts, shared_length, shared_value, shows_bare, shows_nothing, shows_piece}
+use Rattle.item_run.proofs.Seen.{entities_are, field_shown, field_value, field_values, has_column, on_always, on_blank, on_lacks, on_shown, shared_length, shared_value, shows_bare, shows_nothing, shows_piece}
 
 -- `y` is what contracts see of the rows `x`
 module _ {registry : List TypeInfo} {block : BlockState} {x : RowsState} (is : AreRowsOf registry block x) (y : RowsState) (view : x ≡ y) where

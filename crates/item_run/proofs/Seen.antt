@@ -1,10 +1,9 @@
 -- The rows of an item: what is shown of each type, and what texts see.
-use Rattle.std.proofs.Common.{ℕ, ◌≡◌, ◌<◌, ◌≤◌, ◌∙◌, ◌||◌, ◌&&◌, Bool, true, false, not, cond, nat_eq, sym, ap, ap₂, refl, subst, List, [], ◌∷◌, map, fold, length, Some, slice_get, slice_index_or, arith}
-use Rattle.std.specs.Prelude.{⊤}
+use Rattle.std.proofs.Common.{ℕ, ◌≡◌, ◌<◌, ◌≤◌, ◌∙◌, ◌||◌, ◌&&◌, Bool, true, false, not, nat_eq, sym, ap, refl, subst, List, [], ◌∷◌, map, length, Some}
 use Rattle.std.specs.Bool.{MatchBool}
-use Rattle.std.proofs.lemmas.Bool.{and_parts, eqb-true, ltb-true}
+use Rattle.std.proofs.lemmas.Bool.{and_parts, eqb-true, ltb-true, not-true}
 use Rattle.std.proofs.lemmas.List.{get_or-map, length-map}
-use Rattle.ent_types.specs.declared.entity.Entity.{Entity}
+use Rattle.std.proofs.lemmas.Option.{same_Some}
 use Rattle.ent_types.specs.declared.entity.TypeId.{TypeId}
 use Rattle.ent_types.specs.declared.limits.TheConstants.{MOST_BLOCK_ROWS}
 use Rattle.ent_types.specs.declared.kinds.Kind.{Kind}
@@ -12,28 +11,26 @@ use Rattle.ent_types.specs.declared.kinds.Kind.TheVariants.{Plain, Tag, Shared, 
 use Rattle.ent_types.specs.declared.type_info.FieldInfo.{FieldInfo}
 use Rattle.ent_types.specs.declared.type_info.TypeInfo.{TypeInfo}
 use Rattle.ent_types.specs.declared.value.Value.{Value}
-use Rattle.ent_types.specs.declared.value.Value.TheVariants.{Int}
 use Rattle.ent_types.specs.Types.{is_buffer, is_shared}
 use Rattle.ent_types.specs.TypeLookups.{fields_at, is_buffer_at, is_enableable_at, is_shared_at, kind_at}
 use Rattle.ent_types.specs.TypeSets.{has_type}
 use Rattle.enable_bits.specs.Masks.{has}
 use Rattle.world_model.specs.Found.{part_at}
 use Rattle.world_model.specs.Lawful.{IsLawfulHome}
-use Rattle.world_model.specs.Members.{In}
+use Rattle.world_model.specs.Members.{In, IsRising}
 use Rattle.world_model.specs.Members.{AreDistinct as AreOnce}
 use Rattle.world_model.specs.Row.{Row, Cell, cell_type}
-use Rattle.world_laws.proofs.Members.{filter_passes, in_filter}
+use Rattle.world_laws.proofs.Members.{filter_passes}
 use Rattle.world_laws.proofs.NodeRows.{in_has}
 use Rattle.world_laws.proofs.Types.{filter_rising, has_in}
-use Rattle.block_columns.specs.Columns.{HoldsReferences, reference_at, value_at}
+use Rattle.block_columns.specs.Columns.{HoldsReferences, value_at}
 use Rattle.block_columns.specs.Types.{Content, HasField, TypeState, blank_cell, cell_in}
 use Rattle.block_columns.specs.declared.shape.TypeShape.{TypeShape}
 use Rattle.block_eval.specs.Columns.{HoldsValues}
 use Rattle.block_laws.specs.Lending.{piece_types}
 use Rattle.block_laws.proofs.Rows.{have_there, rows_count}
-use Rattle.chunk_block.specs.Blocks.{AreDistinct, ArePiecesOf, BlockState, BlockType, HasShape, HaveTypes, Lacks, OfType, column_types, content_at, no_row, row_in, shape_of}
+use Rattle.chunk_block.specs.Blocks.{AreDistinct, ArePiecesOf, BlockState, HasShape, HaveTypes, Lacks, OfType, column_types, content_at, no_row, row_in, shape_of}
 use Rattle.chunk_block.specs.Pieces.{LacksPiece, OfPiece}
-use Rattle.expr_eval.specs.Values.{OwnRow}
 use Rattle.scenario_record.specs.TextNames.{has_field, has_values, is_known}
 use Rattle.world_places.proofs.Marks.{rising_distinct}
 use Rattle.world_rows.specs.Rows.{own_types}
@@ -41,6 +38,7 @@ use Rattle.world_rows.proofs.Effects.{each_cell, each_types}
 use Rattle.world_rows.proofs.PartsAre.{in_passed}
 use Rattle.world_rows.proofs.Filled.{values_length}
 use Rattle.world_loans.proofs.Cells.{cells_given, given}
+use Rattle.world_loans.proofs.Counted.{rising_once}
 use Rattle.world_loans.proofs.Returned.{row_back}
 use Rattle.structural_ops.specs.Freezing.{AreBlank, lent_block, lent_of}
 use Rattle.structural_ops.specs.Numbered.{HasBlock}
@@ -108,8 +106,11 @@ module _ (x : RowsState) (rows : AreRows x) (lawful : AreLawfulRows x) where
   abbrev bare : List Row
   bare = (frozen_block x).rows
 
+  own_rising : IsRising own
+  own_rising = filter_rising _ (frozen_block x).home.types lawful.home.types
+
   pub own_once : AreOnce own
-  own_once = rising_distinct own (filter_rising _ (frozen_block x).home.types lawful.home.types)
+  own_once = rising_distinct own own_rising
 
   pub count : length (rows_of x) ≡ row_count x
   count = rows_count pieces bare
@@ -181,11 +182,7 @@ module _ (x : RowsState) (rows : AreRows x) (lawful : AreLawfulRows x) where
       subst (λ u. has_type (lent_types x) u ≡ true) type (sym (column_is (lent_types x) (registry_of x) y (frozen_block x).home.types i).1 ∙ lent)
 
   own_shared : (t : ℕ) → has_type own t ≡ true → is_shared_at (registry_of x) t ≡ false
-  own_shared t has = by (is_shared_at (registry_of x) t) (filter_passes (λ u. not (is_shared_at (registry_of x) u)) t (frozen_block x).home.types (has_in t own has))
-    where
-      by : (b : Bool) → not b ≡ true → b ≡ false
-      by true is = absurd (cc is)
-      by false is = refl
+  own_shared t has = not-true (is_shared_at (registry_of x) t) (filter_passes (λ u. not (is_shared_at (registry_of x) u)) t (frozen_block x).home.types (has_in t own has))
 
   pub shows_nothing : (t : ℕ) → LacksPiece t pieces → Lacks t (block_of x).columns → ShowsNothing t x
   shows_nothing t none lacks = by (has_type own t) refl
@@ -230,13 +227,9 @@ module _ (x : RowsState) (rows : AreRows x) (lawful : AreLawfulRows x) where
     pub field_shown : (not (is_shared_at (registry_of x) ty.0)) ≡ true → ShowsNothing ty.0 x → ⊥
     field_shown column nothing =
         let parts = own_parts ty i has in
-        let there : has_type own ty.0 ≡ true = own_there ty.0 parts.0 (apart (is_shared_at (registry_of x) ty.0) column) in
+        let there : has_type own ty.0 ≡ true = own_there ty.0 parts.0 (not-true (is_shared_at (registry_of x) ty.0) column) in
         let both : (has_type own ty.0 && is_held x ty.0) ≡ true = rw (there, parts.2) refl in
         absurd (cc (sym both ∙ nothing.none))
-      where
-        apart : (b : Bool) → not b ≡ true → b ≡ false
-        apart true is = absurd (cc is)
-        apart false is = refl
 
     pub has_column : (r : TypeState) → ShowsType ty.0 x r → HasField i r.shape
     has_column r shows =
@@ -247,13 +240,9 @@ module _ (x : RowsState) (rows : AreRows x) (lawful : AreLawfulRows x) where
       -- the value of a row in a field
       pub field_value : (k : ℕ) → k < row_count x → (own_row_at x k).field ty i ≡ value_at i (cell_in k r.cells).values
       field_value k below =
-          let there : has_type own ty.0 ≡ true = own_there ty.0 (own_parts ty i has).0 (apart (is_shared_at (registry_of x) ty.0) column) in
+          let there : has_type own ty.0 ≡ true = own_there ty.0 (own_parts ty i has).0 (not-true (is_shared_at (registry_of x) ty.0) column) in
           field_own (registry_of x) (spot_at (seat_of x) k) (frozen_block x).home (row_in k (rows_of x)).entity ty i (cells k below) (ap (λ ts. has_type ts ty.0) (types_are k below) ∙ there)
           ∙ ap (λ (c : Content). value_at i c.values) (sym (shows.cells k below))
-        where
-          apart : (b : Bool) → not b ≡ true → b ≡ false
-          apart true is = absurd (cc is)
-          apart false is = refl
 
       -- the values of all rows
       pub field_values : (vs : List Value) → vs ≡ map (λ (c : Content). value_at i c.values) r.cells → HoldsValues vs (row_count x) (λ k. (own_row_at x k).field ty i)
@@ -270,12 +259,9 @@ module _ (x : RowsState) (rows : AreRows x) (lawful : AreLawfulRows x) where
       shared_length =
           let parts = own_parts ty i has in
           let (us, same, fits) = shared_part (registry_of x) (frozen_block x).home lawful.home ty.0 shared parts.0 in
-          let equal : us ≡ vs = same_some us vs (sym same ∙ is) in
+          let equal : us ≡ vs = same_Some us vs (sym same ∙ is) in
           let size : length us ≡ length (fields_at (registry_of x) ty.0) = values_length (registry_of x) ty.0 us (shared_no_buffer (kind_at (registry_of x) ty.0) shared) fits in
           subst (λ (ws : List Value). i < length ws) equal (subst (λ n. i < n) (sym size) (field_parts (registry_of x) ty i parts.1).0)
-        where
-          same_some : (us ws : List Value) → Some us ≡ Some ws → us ≡ ws
-          same_some us ws h = cc
 
       pub shared_value : (k : ℕ) → k < row_count x → (own_row_at x k).field ty i ≡ value_at i vs
       shared_value k below =
@@ -292,15 +278,9 @@ module _ (x : RowsState) (rows : AreRows x) (lawful : AreLawfulRows x) where
 
   module _ (ty : TypeId) (k : ℕ) (below : k < row_count x) where
     on_here : (own_row_at x k).on ty ≡ (has_type (frozen_block x).home.types ty.0 && not (is_enableable_at (registry_of x) ty.0 && (content_at ty.0 (cells k below)).off))
-    on_here = on_is (registry_of x) (spot_at (seat_of x) k) (frozen_block x).home (row_in k (rows_of x)).entity ty (cells k below) (distinct (map cell_type (cells k below)) (subst AreOnce (sym (types_are k below)) own_once))
-      where
-        distinct : (ts : List ℕ) → AreOnce ts → AreDistinct ts
-        distinct [] once = tt
-        distinct (t ∷ ts) once = (by (has_type ts t) refl, distinct ts once.1)
-          where
-            by : (b : Bool) → has_type ts t ≡ b → b ≡ false
-            by true is = absurd (once.0 (has_in t ts is))
-            by false is = refl
+    on_here =
+        on_is (registry_of x) (spot_at (seat_of x) k) (frozen_block x).home (row_in k (rows_of x)).entity ty (cells k below)
+        (subst AreDistinct (sym (types_are k below)) (rising_once own own_rising))
 
     pub on_lacks : has_type (frozen_block x).home.types ty.0 ≡ false → (own_row_at x k).on ty ≡ false
     on_lacks lacks = on_here ∙ ap (λ b. b && not (is_enableable_at (registry_of x) ty.0 && (content_at ty.0 (cells k below)).off)) lacks

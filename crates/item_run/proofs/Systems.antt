@@ -1,5 +1,5 @@
 -- What the texts of an item's system need is there, and the item after its texts were done.
-use Rattle.std.proofs.Common.{ℕ, ◌≡◌, inl, inr, true, false, sym, ap, refl, subst, List, [], map, ◌∙◌, ◌<◌}
+use Rattle.std.proofs.Common.{ℕ, ◌≡◌, true, sym, ap, refl, subst, List, [], map, ◌∙◌}
 use Rattle.ent_types.specs.TypeSets.{has_type}
 use Rattle.enable_bits.specs.Masks.{has, IsMask, places_between, places_where}
 use Rattle.world_model.specs.Members.{In}
@@ -8,10 +8,8 @@ use Rattle.expr_trees.specs.declared.tree.Assign.{Assign}
 use Rattle.expr_trees.specs.declared.tree.Switch.{Switch}
 use Rattle.block_laws.specs.Lending.{piece_types}
 use Rattle.chunk_block.specs.Blocks.{LoanState}
-use Rattle.scenario_record.specs.declared.record.SystemEntry.{SystemEntry}
 use Rattle.run_model.specs.Job.{Assigns, Switches, Text, texts_of, written_type}
 use Rattle.run_laws.specs.Runnable.{Sources, SystemReads}
-use Rattle.item_run.specs.ItemRows.{RowsState, registry_of, sources_in}
 use Rattle.item_run.specs.Items.{IsItem, ItemState}
 use Rattle.item_run.specs.Writing.{AreReady, CanAssign, CanSwitch, Does}
 use Rattle.item_run.proofs.Done.{pieces_same, reads_after, rows_after}

@@ -1,9 +1,8 @@
-use Rattle.std.proofs.Common.{◌∙◌, map, subst, List}
+use Rattle.std.proofs.Common.{map, subst, List}
 use Rattle.world_model.specs.Members.{In}
 use Rattle.expr_trees.specs.declared.tree.Assign.{Assign}
 use Rattle.expr_trees.specs.declared.tree.Switch.{Switch}
 use Rattle.run_model.specs.Job.{Assigns, Switches}
-use Rattle.item_run.specs.Items.{ItemState}
 use Rattle.item_run.specs.Writing.{Does, rows_at}
 use Rattle.item_run.proofs.Done.{can_switch_after, does_then, ready_after}
 use Rattle.item_run.proofs.Systems.{can_assign, can_switch, ready}

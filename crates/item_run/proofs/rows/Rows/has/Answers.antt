@@ -1,4 +1,4 @@
-use Rattle.std.proofs.Common.{◌≡◌, ◌∙◌, false, sym}
+use Rattle.std.proofs.Common.{◌∙◌, sym}
 use Rattle.item_run.proofs.Held.{unknown}
 use Rattle.item_run.proofs.rows.Rows.has.Goals as goal
 

@@ -1,4 +1,4 @@
-use Rattle.std.proofs.Common.{pos, ◌≡◌, ◌<◌, ◌∙◌, sym, ap, ap₂, subst, length, get_or, List}
+use Rattle.std.proofs.Common.{pos, ◌<◌, sym, ap₂, subst, length, get_or, List}
 use Rattle.ent_types.specs.declared.value.Value.{Value}
 use Rattle.ent_types.specs.declared.value.Value.TheVariants.{Int}
 use Rattle.item_run.proofs.Held.{shared_there, value_is, value_there}

@@ -1,4 +1,4 @@
-use Rattle.std.proofs.Common.{◌≡◌, sym}
+use Rattle.std.proofs.Common.{sym}
 use Rattle.item_run.proofs.Held.{always, bits_blank, bits_shown}
 use Rattle.item_run.proofs.rows.RowsBlockRows.enabled.Goals as goal
 
