@@ -6,7 +6,8 @@ ghost use Rattle.expr_eval.specs.Conditions.{reads, ref_reads};
 ghost use Rattle.expr_eval.specs.Rows.{others_of};
 ghost use Rattle.world_model.specs.Part.{same_entity};
 ghost use Rattle.enable_bits.specs.Masks.{has};
-ghost use Rattle.block_columns.specs.Columns.{HoldsNumbers, HoldsReferences, reference_at, number_at};
+ghost use Rattle.block_columns.specs.Columns.{HoldsNumbers, HoldsReferences, reference_at, number_at, value_at};
+ghost use Rattle.block_columns.specs.Slices.{slice_values};
 ghost use Rattle.block_eval.specs.Columns.{combined};
 
 use crate::columns::{
@@ -17,8 +18,9 @@ use crate::operators::{
     combine, combine_field, combine_fields, combine_number, pick_all, unary_all,
 };
 use crate::reader::{BlockRows, MOST_ROWS};
+use block_columns::ColumnSlice;
 use enable_bits::Mask;
-use ent_types::{Entity, TypeId};
+use ent_types::{Entity, TypeId, Value};
 use expr_eval::{Lookup, number};
 use expr_trees::{BinaryOp, Expr, RefExpr, Variable};
 
@@ -28,7 +30,10 @@ fn numbers<B: BlockRows>(block: &B, ty: TypeId, field: u8, out: &mut [i64])
     requires has { B.has_field block.now ty field ≡ true }
     ensures { HoldsNumbers out.new (B.rows block.now) (λ k. number ((B.own_row block.now k).field ty field)) }
 {
-    numbers_of(block.column(ty, field), out);
+    match block.constant(ty, field) {
+        Some(value) => fill(number(value), out),
+        None => numbers_of(block.column(ty, field), out),
+    }
 }
 
 /// Fills a column with the references of a field.
@@ -37,7 +42,11 @@ fn references<B: BlockRows>(block: &B, ty: TypeId, field: u8, out: &mut [Entity]
     requires has { B.has_field block.now ty field ≡ true }
     ensures { HoldsReferences out.new (B.rows block.now) (λ k. entity ((B.own_row block.now k).field ty field)) }
 {
-    references_of(block.column(ty, field), out);
+    match block.constant(ty, field) {
+        Some(Value::Ref(e)) => fill_references(e, out),
+        Some(Value::Int(_)) => fill_references(Entity::NULL, out),
+        None => references_of(block.column(ty, field), out),
+    }
 }
 
 /// Combines a column with a field.
@@ -46,7 +55,33 @@ fn with_field<B: BlockRows>(block: &B, op: BinaryOp, ty: TypeId, field: u8, left
     requires has { B.has_field block.now ty field ≡ true }
     ensures { HoldsNumbers left.new (B.rows block.now) (λ k. combined op (number_at k left.old) (number ((B.own_row block.now k).field ty field))) }
 {
-    combine_field(op, left, block.column(ty, field));
+    match block.constant(ty, field) {
+        Some(value) => combine_number(op, left, number(value)),
+        None => combine_field(op, left, block.column(ty, field)),
+    }
+}
+
+/// Fills a column with the combinations of a field and a column.
+fn with_column<B: BlockRows>(
+    block: &B,
+    op: BinaryOp,
+    ty: TypeId,
+    field: u8,
+    right: ColumnSlice<'_>,
+    out: &mut [i64],
+)
+    requires rows { length out.old ≡ B.rows block.now }
+    requires left { B.has_field block.now ty field ≡ true }
+    requires right { length (slice_values right) ≡ B.rows block.now }
+    ensures { HoldsNumbers out.new (B.rows block.now) (λ k. combined op (number ((B.own_row block.now k).field ty field)) (number (value_at k (slice_values right.entry)))) }
+{
+    match block.constant(ty, field) {
+        Some(value) => {
+            fill(number(value), out);
+            combine_field(op, out, right);
+        }
+        None => combine_fields(op, block.column(ty, field), right, out),
+    }
 }
 
 /// Fills a column with the combinations of two fields.
@@ -64,9 +99,16 @@ fn with_fields<B: BlockRows>(
     requires right { B.has_field block.now right_ty right_field ≡ true }
     ensures { HoldsNumbers out.new (B.rows block.now) (λ k. combined op (number ((B.own_row block.now k).field ty field)) (number ((B.own_row block.now k).field right_ty right_field))) }
 {
-    let left = block.column(ty, field);
-    let right = block.column(right_ty, right_field);
-    combine_fields(op, left, right, out);
+    match block.constant(right_ty, right_field) {
+        Some(value) => {
+            numbers(block, ty, field, out);
+            combine_number(op, out, number(value));
+        }
+        None => {
+            let right = block.column(right_ty, right_field);
+            with_column(block, op, ty, field, right, out);
+        }
+    }
 }
 
 /// Fills a column with 1 for each row that has the type enabled, and 0 for each other row.

@@ -156,7 +156,7 @@ types_of : (zs : List TypeState) → piece_types zs ≡ map (λ s. s.ty.0) (map 
 types_of [] = refl
 types_of (z ∷ zs) = ap (λ (ts : List ℕ). z.shape.ty.0 ∷ ts) (types_of zs)
 
-same_types : (zs ws : List TypeState) → map (λ x. x.shape) zs ≡ map (λ x. x.shape) ws → piece_types zs ≡ piece_types ws
+pub same_types : (zs ws : List TypeState) → map (λ x. x.shape) zs ≡ map (λ x. x.shape) ws → piece_types zs ≡ piece_types ws
 same_types zs ws same = types_of zs ∙ (ap (map (λ (s : TypeShape). s.ty.0)) same ∙ sym (types_of ws))
 
 -- ---- the types of what is lent
@@ -299,7 +299,7 @@ shapes_written t F (z ∷ zs) keeps = by (nat_eq z.shape.ty.0 t) (shapes_written
 
 -- ---- the writes of a loan
 
-all_written : (n : ℕ) (G : ℕ → Content → Content) (x : TypeState) → n ≡ length x.cells → Writes n (all_rows G) G x
+pub all_written : (n : ℕ) (G : ℕ → Content → Content) (x : TypeState) → n ≡ length x.cells → Writes n (all_rows G) G x
 all_written n G x size = record { same_shape = refl; cells = λ k within. get_or-at_places G x.cells k blank_cell (subst (λ m. k < m) size within) }
 
 -- only row `row` is changed
@@ -320,7 +320,7 @@ one_written n row g x within = record {
       ];
 }
 
-cells_kept : (t : ℕ) (cs : List Cell) → change_cell t (λ x. x) cs ≡ cs
+pub cells_kept : (t : ℕ) (cs : List Cell) → change_cell t (λ x. x) cs ≡ cs
 cells_kept t [] = refl
 cells_kept t (c ∷ cs) = by (nat_eq c.type_id t) (cells_kept t cs)
   where

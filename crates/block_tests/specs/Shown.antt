@@ -5,8 +5,9 @@ use Rattle.ent_types.specs.declared.entity.TypeId.{TypeId}
 use Rattle.ent_types.specs.declared.value.Value.{Value}
 use Rattle.ent_types.specs.declared.value.Value.TheVariants.{Int, Ref}
 
+-- type 6 is shared
 abbrev pub has_own : TypeId → ℕ → Bool
-has_own ty field = ty.0 == 3 && nat_lt field 3
+has_own ty field = if ty.0 == 6 then field == 0 else ty.0 == 3 && nat_lt field 3
 
 abbrev pub values_of : ℕ → List ℤ → List ℤ → List Entity → List Value
 values_of field narrow wide refs =

@@ -1,11 +1,12 @@
 //! Expressions over all rows of a block: columns of each kind, and masks.
-ghost use Rattle.std.specs.Prelude.{◌≡◌, ◌+◌, true, None};
+ghost use Rattle.std.specs.Prelude.{◌≡◌, ◌+◌, ◌==◌, not, true, None, if◌then◌else◌};
+ghost use Rattle.ent_types.specs.declared.value.Value.TheVariants.{Int};
 ghost use Rattle.enable_bits.specs.Masks.{has};
 ghost use Rattle.expr_eval.specs.Conditions.{reads, ref_reads};
 ghost use Rattle.block_columns.specs.Columns.{value_at, reference_at};
 ghost use Rattle.block_tests.specs.Shown.{has_own, values_of};
 
-use crate::fixtures::{PLACE, TARGET, TOTAL, X, entity};
+use crate::fixtures::{PLACE, TARGET, TEAM, TOTAL, X, entity};
 use block_columns::ColumnSlice;
 use block_eval::{BlockRows, evaluate, evaluate_mask, evaluate_refs};
 use enable_bits::Mask;
@@ -16,9 +17,10 @@ use sqlite_items::Boxed;
 use std::alloc::Global;
 use std::test::Fail;
 
-/// Four rows with a field of each kind.
+/// Four rows with a field of each kind, and a shared type.
 #[derive(Clone, Copy)]
 struct Shown {
+    team: i64,
     narrow: [i32; 4],
     wide: [i64; 4],
     refs: [Entity; 4],
@@ -30,6 +32,9 @@ struct Shown {
 fn has_own(ty: TypeId, field: u8) -> bool
     ensures { result ≡ has_own ty field }
 {
+    if ty.0 == 6 {
+        return field == 0;
+    }
     ty.0 == 3 && field < 3
 }
 
@@ -37,7 +42,7 @@ impl BlockRows for Shown {
     ghost rows = { λ _. 4 };
 
     ghost own_row = { λ s k. record {
-      field = λ ty i. value_at k (values_of i s.narrow s.wide s.refs);
+      field = λ ty i. if ty.0 == 6 then Int s.team else value_at k (values_of i s.narrow s.wide s.refs);
       on = λ ty. has s.on k;
       me = reference_at k s.me;
       item = 3;
@@ -48,8 +53,17 @@ impl BlockRows for Shown {
 
     ghost has_field = { λ _ ty i. has_own ty i };
 
+    ghost has_column = { λ _ ty. not (ty.0 == 6) };
+
     fn len(&self) -> u32 {
         4
+    }
+
+    fn constant(&self, ty: TypeId, _field: u8) -> Option<Value> {
+        if ty.0 == 6 {
+            return Some(Value::Int(self.team));
+        }
+        None
     }
 
     fn column(&self, _ty: TypeId, field: u8) -> ColumnSlice<'_> {
@@ -146,6 +160,7 @@ fn sample() -> Shown {
     let mut on = Mask::first(4);
     on.set(1, false);
     Shown {
+        team: -3,
         narrow: [-2147483648, 0, 5, 2147483647],
         wide: [1, -9223372036854775808, 0, -7],
         refs: [entity(1), entity(2), Entity::NULL, entity(4)],
@@ -183,6 +198,10 @@ fn has_entities(e: &RefExpr, wanted: [Entity; 4]) -> bool {
 
 fn own(field: u8) -> Expr {
     Expr::Own { ty: PLACE, field }
+}
+
+fn team() -> Expr {
+    Expr::Own { ty: TEAM, field: 0 }
 }
 
 fn binary(alloc: Global, op: BinaryOp, left: Expr, right: Expr) -> Result<Expr, Memory> {
@@ -243,11 +262,27 @@ fn compares_references() -> bool {
         & has_values(&Expr::On(PLACE), [1, 0, 1, 1])
 }
 
+/// A field of a shared type: alone, on each side of a column, on both sides, and as a reference.
+fn reads_constants(alloc: Global) -> Result<bool, Fail> {
+    let right = binary(alloc, BinaryOp::Plus, own(X), team())?;
+    let left = binary(alloc, BinaryOp::Minus, team(), own(TOTAL))?;
+    let both = binary(alloc, BinaryOp::Times, team(), team())?;
+    let reference = RefExpr::Own { ty: TEAM, field: 0 };
+    Ok(
+        has_values(&team(), [-3, -3, -3, -3])
+            & has_values(&right, [-2147483651, -3, 2, 2147483644])
+            & has_values(&left, [-4, 9223372036854775805, -3, 4])
+            & has_values(&both, [9, 9, 9, 9])
+            & has_entities(&reference, [Entity::NULL; 4]),
+    )
+}
+
 #[test]
 fn expressions_over_all_kinds_of_columns(rt: HostRuntime) -> Result<(), Fail> {
     assert!(rt; adds_columns(rt.alloc())?);
     assert!(rt; nests(rt.alloc())?);
     assert!(rt; compares_numbers(rt.alloc())?);
     assert!(rt; compares_references());
+    assert!(rt; reads_constants(rt.alloc())?);
     Ok(())
 }

@@ -1,2 +1,4 @@
 pub mod Seats
+pub mod ItemRows
+pub mod Writing
 pub mod Items

@@ -1,9 +1,10 @@
 //! Items.
 ghost use Rattle.std.specs.Prelude.{◌≡◌};
 ghost use Rattle.world_loans.specs.Fitting.{AreFitting};
-ghost use Rattle.item_run.specs.Items.{Finishes, IsItem, registry_of};
+ghost use Rattle.item_run.specs.ItemRows.{registry_of};
+ghost use Rattle.item_run.specs.Items.{Finishes, IsItem};
 
-use crate::texts::do_texts;
+use crate::texts::{Context, do_texts};
 use chunk_block::Loan;
 use enable_bits::Mask;
 use scenario_record::SystemEntry;
@@ -23,9 +24,13 @@ pub struct Item<'a> {
 }
 
 impl<'a> Model for Item<'a> {
+    ghost use Rattle.std.specs.Coded.{codes};
+    ghost use Rattle.expr_trees.specs.contracts.tree.Expr as expr;
     ghost use Rattle.item_run.specs.Items.{ItemState, IsItem};
 
     ghost Value = { ItemState };
+
+    ghost coded = { Prim.hlevel (codes, expr.the_row.coded) };
 
     ghost view = { λ i. record { at = record { frozen = i.frozen.now; loan = i.loan; item = i.item; frame = i.frame }; system = i.system.now; left = i.left } };
 
@@ -60,14 +65,20 @@ impl<'a> Item<'a> {
     pub fn finish(&mut self)
         ensures { Finishes self.old self.new }
     {
-        do_texts(self.frozen, self.system, self.item, self.frame, &self.left, &mut self.loan);
+        let context = Context {
+            frozen: self.frozen,
+            left: self.left,
+            item: self.item,
+            frame: self.frame,
+        };
+        do_texts(&context, self.system, &mut self.loan);
         self.left = Mask::empty();
     }
 
     /// Returns the loan as it stands. It takes no memory.
     pub fn take_apart(self) -> Loan
-        ensures value { result ≡ self.at.loan }
-        ensures fit { AreFitting (registry_of self.at) result.pieces }
+        ensures value { result ≡ self.entry.at.loan }
+        ensures fit { AreFitting (registry_of self.entry.at) result.pieces }
     {
         let Item { loan, .. } = self;
         loan

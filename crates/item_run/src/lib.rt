@@ -6,7 +6,9 @@
 #![tactic(auto)]
 
 mod item;
+mod laws;
 mod rows;
 mod texts;
 
 pub use item::Item;
+pub use laws::{items_do_what_runs_do, texts_are_done_row_by_row};

@@ -28,7 +28,7 @@ none_off t (c ∷ cs) h =
     ap (λ b. (b && c.off) || list_any (is_off_cell t) cs) parts.0 ∙ none_off t cs parts.1
 
 -- among cells of which each type is there once, one that is disabled is the first of its type
-cells_off : (t : ℕ) (cells : List Cell) → AreDistinct (map cell_type cells) → list_any (is_off_cell t) cells ≡ (content_at t cells).off
+pub cells_off : (t : ℕ) (cells : List Cell) → AreDistinct (map cell_type cells) → list_any (is_off_cell t) cells ≡ (content_at t cells).off
 cells_off t [] h = refl
 cells_off t (c ∷ cs) h = by (nat_eq c.type_id t) refl (cells_off t cs h.1)
   where

@@ -65,7 +65,7 @@ set_fits other (f ∷ fs) (u ∷ vs) (suc i) v h =
     let parts = and_parts (fits_field f.kind u) (fits_fields fs vs) h in
     and_from (fits_field f.kind u) (fits_fields fs (slice_set vs i (fit (slice_index_or fs i other).kind v))) parts.0 (set_fits other fs vs i v parts.1)
 
-set_keeps_fit : (info : TypeInfo) (vs : List Value) (i : ℕ) (v : Value) → is_buffer info.kind ≡ false → fits_type info vs ≡ true
+pub set_keeps_fit : (info : TypeInfo) (vs : List Value) (i : ℕ) (v : Value) → is_buffer info.kind ≡ false → fits_type info vs ≡ true
     → fits_type info (slice_set vs i (fit (slice_index_or info.fields i (record { name = []; kind = I32 })).kind v)) ≡ true
 unfolding fits_type
 set_keeps_fit info vs i v plain h = rw plain (set_fits (record { name = []; kind = I32 }) info.fields vs i v (rw plain at h))

@@ -1,11 +1,13 @@
 -- Worlds of which types of blocks are lent, and the loans.
-use Rattle.std.specs.Prelude.{ℕ, ◌≡◌, ⊤, Bool, not, if◌then◌else◌, nat_eq, List, [], ◌∷◌, map, filter, fold, sum_by}
+use Rattle.std.specs.Prelude.{ℕ, ◌≡◌, ⊤, Bool, true, not, if◌then◌else◌, nat_eq, List, [], ◌∷◌, map, filter, fold, sum_by}
 use Rattle.std.specs.List.{list_any}
 use Rattle.ent_types.specs.declared.type_info.TypeInfo.{TypeInfo}
 use Rattle.ent_types.specs.TypeSets.{has_type}
 use Rattle.world_model.specs.Members.{In, one_if}
+use Rattle.world_model.specs.Row.{Row}
 use Rattle.world_model.specs.World.{Block}
-use Rattle.chunk_block.specs.Blocks.{BlockState, LoanState, IsLoanOf, lent_type, lent_row, given_rows, new_types}
+use Rattle.block_columns.specs.Types.{blank_cell}
+use Rattle.chunk_block.specs.Blocks.{BlockState, LoanState, IsLoanOf, content_at, lent_type, lent_row, given_rows, new_types, row_in}
 use Rattle.archetype_store.specs.Stores.{Numbered}
 use Rattle.world_rows.specs.Rows.{own_types}
 use Rattle.world_loans.specs.Fitting.{AreFitting}
@@ -48,6 +50,10 @@ is_lent f t = list_any (λ ts. has_type ts t) f.lent
 -- a block of which some types are lent
 abbrev pub lent_block : List TypeInfo → List ℕ → Block → BlockState
 lent_block registry lent b = record (whole_block registry b) { columns = map (lent_type lent) (new_types registry b.home.types) }
+
+-- in each row the cells of these types are blank
+abbrev pub AreBlank : List ℕ → List Row → Type 0
+AreBlank types rows = (t : ℕ) → has_type types t ≡ true → (k : ℕ) → content_at t (row_in k rows).cells ≡ blank_cell
 
 -- ---- freezing
 

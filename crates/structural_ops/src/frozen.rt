@@ -1,6 +1,9 @@
 //! A world that lends: while types of its blocks are written elsewhere, all may read the rest.
-ghost use Rattle.std.specs.Prelude.{◌≡◌, ◌-◌, ◌≤◌, ⊤, [], map, length, true, false};
-ghost use Rattle.ent_types.specs.TypeLookups.{is_buffer_at};
+ghost use Rattle.std.specs.Prelude.{◌≡◌, ◌-◌, ◌≤◌, ⊤, [], map, length, true, false, Some};
+ghost use Rattle.ent_types.specs.TypeLookups.{is_buffer_at, is_shared_at};
+ghost use Rattle.ent_types.specs.TypeSets.{has_type};
+ghost use Rattle.world_model.specs.Found.{part_at};
+ghost use Rattle.world_model.specs.Lawful.{IsLawfulHome};
 ghost use Rattle.world_model.specs.Members.{In};
 ghost use Rattle.world_model.specs.Reads.{element_of, elements_of};
 ghost use Rattle.chunk_block.specs.Blocks.{LoanState, IsLoanOf};
@@ -8,7 +11,7 @@ ghost use Rattle.archetype_store.specs.Stores.{OfBlock};
 ghost use Rattle.world_loans.specs.Plans.{CanLend, after_lends, loans_from};
 ghost use Rattle.world_loans.specs.Returns.{after_returns};
 ghost use Rattle.structural_ops.specs.Numbered.{HasBlock};
-ghost use Rattle.structural_ops.specs.Freezing.{AreLoansOf, IsPlan, frozen_by, is_lent, lent_block, lent_of, loan_of, with_loans};
+ghost use Rattle.structural_ops.specs.Freezing.{AreBlank, AreLoansOf, IsPlan, frozen_by, is_lent, lent_block, lent_of, loan_of, with_loans};
 
 use crate::World;
 use crate::loans::{LendPlan, Loans};
@@ -16,7 +19,7 @@ use crate::lookups::{elements_in, has_in, value_in};
 use crate::tables::Tables;
 use archetype_store::ArchetypeStore;
 use chunk_block::Block;
-use ent_types::{Entity, TypeId, TypeSet, Value};
+use ent_types::{Entity, Registry, TypeId, TypeSet, Value, Values};
 use expr_eval::Lookup;
 use std::marker::Model;
 
@@ -92,13 +95,31 @@ impl Frozen {
         World { tables }
     }
 
+    /// Returns the registry.
+    pub fn registry(&self) -> &Registry
+        ensures { result.now ≡ self.now.state.world.registry }
+    {
+        &self.tables.registry
+    }
+
     /// Returns the block of a number. Its rows can be read, and the columns and bits that aren't lent.
     pub fn block(&self, number: u32) -> &Block
         requires { HasBlock number (λ _. ⊤) self.now.state }
-        ensures { HasBlock number (λ b. result.now ≡ lent_block self.now.state.world.registry (lent_of self.now number) b) self.now.state }
+        ensures block { HasBlock number (λ b. result.now ≡ lent_block self.now.state.world.registry (lent_of self.now number) b) self.now.state }
+        ensures blank { HasBlock number (λ b. AreBlank (lent_of self.now number) b.rows) self.now.state }
+        ensures home { HasBlock number (λ b. IsLawfulHome self.now.state.world.registry b.home) self.now.state }
     {
         self.tables.store.is_sound();
         self.tables.store.block(number)
+    }
+
+    /// Returns the values that all rows of the block of a number have of a shared type.
+    pub fn shared_of(&self, number: u32, ty: TypeId) -> &Values
+        requires there { HasBlock number (λ b. has_type b.home.types ty.0 ≡ true) self.now.state }
+        requires shared { is_shared_at self.now.state.world.registry ty.0 ≡ true }
+        ensures { HasBlock number (λ b. part_at ty.0 b.home.shared ≡ Some result.now) self.now.state }
+    {
+        self.tables.store.shared_of(number, ty)
     }
 
     /// Returns the number of elements of a buffer, or `None` if and only if the entity isn't alive or lacks the type. The type must

@@ -21,7 +21,7 @@ use Rattle.world_rows.proofs.Reading.{shared_rising, cell_own, cell_off, cell_va
 use Rattle.world_rows.proofs.Becoming.{values_distinct}
 
 -- what passes is in what is filtered
-in_passed : (p : ℕ → Bool) (t : ℕ) (ts : List ℕ) → In t ts → p t ≡ true → In t (filter p ts)
+pub in_passed : (p : ℕ → Bool) (t : ℕ) (ts : List ℕ) → In t ts → p t ≡ true → In t (filter p ts)
 in_passed p t [] i e = absurd i
 in_passed p t (u ∷ us) (inl same) e = subst (λ b. In t (cond b (u ∷ filter p us) (filter p us))) (sym (ap p (sym same) ∙ e)) (inl same)
 in_passed p t (u ∷ us) (inr i) e = by (p u) (in_passed p t us i e)
