@@ -1,2 +1,5 @@
 pub mod Chains
 pub mod Entries
+pub mod Changes
+pub mod Kept
+pub mod Heads

@@ -1,5 +1,9 @@
 //! Commands: structural changes whose values are known, but for the entities that other commands make.
-use ent_types::{Entity, Sequence, TypeId};
+ghost use Rattle.std.specs.Prelude.{◌≡◌};
+ghost use Rattle.command_record.specs.Changes.{HasValue, with_target, with_value};
+
+use crate::lists::{CmdParts, CmdValues};
+use ent_types::{Entity, TypeId};
 
 /// What a command acts on, or a reference among its values.
 #[derive(Clone, Copy, Debug, PartialEq, Eq)]
@@ -24,9 +28,6 @@ pub enum CmdValue {
     Ref(Target),
 }
 
-/// The values of one part, in the order of the type's fields.
-pub type CmdValues = Sequence<CmdValue>;
-
 /// A type with its values.
 #[derive(Debug, Drop)]
 pub struct CmdPart {
@@ -35,9 +36,6 @@ pub struct CmdPart {
     /// One value for each field of the type. The values of a buffer's elements come one after another.
     pub values: CmdValues,
 }
-
-/// The parts of a row.
-pub type CmdParts = Sequence<CmdPart>;
 
 /// A structural change. Each variant is the operation of the world that has its name.
 #[derive(Debug, Drop)]
@@ -108,4 +106,44 @@ pub enum Command {
         /// The buffer type.
         ty: TypeId,
     },
+}
+
+impl Command {
+    /// Replaces what the command acts on. `Create` acts on nothing, so it stays as it is. It takes no memory.
+    pub fn set_target(&mut self, new: Target)
+        ensures { self.new ≡ with_target self.old new }
+    {
+        match self {
+            Command::Create { .. } => {}
+            Command::Destroy { target } => *target = new,
+            Command::Add { target, .. } => *target = new,
+            Command::Remove { target, .. } => *target = new,
+            Command::Set { target, .. } => *target = new,
+            Command::SetShared { target, .. } => *target = new,
+            Command::SetEnabled { target, .. } => *target = new,
+            Command::Instantiate { source } => *source = new,
+            Command::Append { target, .. } => *target = new,
+            Command::Clear { target, .. } => *target = new,
+        }
+    }
+
+    /// Replaces the value at a place of a part. `Create` has some parts, and each other command that has values has one, which is
+    /// part 0. It takes no memory.
+    pub fn set_value(&mut self, part: usize, at: usize, value: CmdValue)
+        requires { HasValue self.old part at }
+        ensures { self.new ≡ with_value self.old part at value }
+    {
+        match self {
+            Command::Create { parts } => parts.set_value(part, at, value),
+            Command::Add { part: own, .. } => own.values.set(at, value),
+            Command::Set { part: own, .. } => own.values.set(at, value),
+            Command::SetShared { part: own, .. } => own.values.set(at, value),
+            Command::Append { part: own, .. } => own.values.set(at, value),
+            Command::Destroy { .. } => unreachable!(),
+            Command::Remove { .. } => unreachable!(),
+            Command::SetEnabled { .. } => unreachable!(),
+            Command::Instantiate { .. } => unreachable!(),
+            Command::Clear { .. } => unreachable!(),
+        }
+    }
 }

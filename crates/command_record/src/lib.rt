@@ -6,6 +6,9 @@
 
 mod chain;
 mod command;
+mod kept;
+mod lists;
 
-pub use chain::{Chain, Entry};
-pub use command::{CmdPart, CmdParts, CmdValue, CmdValues, Command, Target};
+pub use chain::{Chain, Entry, MOST_ENTRIES};
+pub use command::{CmdPart, CmdValue, Command, Target};
+pub use lists::{CmdParts, CmdValues};
