@@ -6,7 +6,7 @@ use Rattle.run_model.specs.Buffers.{SharedKey}
 use Rattle.command_record.specs.declared.command.Target.TheVariants.{Live}
 use Rattle.command_record.specs.declared.command.Command.TheVariants.{Destroy}
 use Rattle.command_record.specs.declared.chain.Entry.{Entry}
-use Rattle.command_record.specs.declared.chain.Turn.{Turn}
+use Rattle.command_record.specs.declared.turn.Turn.{Turn}
 use Rattle.command_record.specs.Chains.{ChainState, turn_of}
 use Rattle.playback.specs.declared.arrange.ArrangeEnd.{ArrangeEnd}
 use Rattle.playback.specs.declared.arrange.ArrangeEnd.TheVariants.{KeyShared, Memory}

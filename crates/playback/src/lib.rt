@@ -14,7 +14,7 @@ mod player;
 
 pub use arrange::{ArrangeEnd, arrange};
 pub use laws::{
-    entries_of_chains_are_apart, entries_of_own_rows_are_apart, entries_of_own_rows_play_as_defined,
-    entries_of_own_rows_suit,
+    entries_of_chains_are_apart, entries_of_own_rows_are_apart,
+    entries_of_own_rows_play_as_defined, entries_of_own_rows_suit,
 };
 pub use player::{Note, play};

@@ -5,7 +5,7 @@ ghost use Rattle.ent_types.specs.declared.skip.Skip.TheVariants as skips;
 ghost use Rattle.structural_ops.specs.declared.fault.OpFault.TheVariants as faults;
 ghost use Rattle.world_model.specs.Part.{part_of as seen};
 ghost use Rattle.playback.specs.Asked.{entity_for, part_for, value_for};
-ghost use Rattle.playback.specs.Makers.{Finds, IS_MAKER};
+ghost use Rattle.playback.specs.Makers.{Finds, maker, same_maker};
 
 use command_record::{CmdPart, CmdValue, Target};
 use ent_types::{Entity, Memory, Part, Skip, Value, Values};
@@ -50,10 +50,10 @@ impl Made {
     }
 
     /// Adds the entity that an entry made.
-    pub(crate) fn add(&mut self, maker: Maker, e: Entity) -> Result<(), Memory>
-        ensures { OnOk result ((item row number : ℕ) → self.new item row number ≡ (if IS_MAKER maker item row number then Some e else self.old item row number)) }
+    pub(crate) fn add(&mut self, by: Maker, e: Entity) -> Result<(), Memory>
+        ensures { OnOk result ((item row number : ℕ) → self.new item row number ≡ (if same_maker by (maker item row number) then Some e else self.old item row number)) }
     {
-        self.entities.insert(maker, e)?;
+        self.entities.insert(by, e)?;
         Ok(())
     }
 

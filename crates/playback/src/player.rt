@@ -1,10 +1,10 @@
 //! Entries played one after another.
-ghost use Rattle.std.specs.Prelude.{◌≡◌, ◌⊎◌, OnOk, OnErr};
+ghost use Rattle.std.specs.Prelude.{◌≡◌, ℕ, true, ◌⊎◌, [], ◌∷◌, ◌++◌, if◌then◌else◌, Some, OnOk, OnErr};
 ghost use Rattle.world_model.specs.World.{capacity};
 ghost use Rattle.structural_ops.specs.Worlds.{Grows};
 ghost use Rattle.playback.specs.Asked.{AllSuit, CommandSuits};
 ghost use Rattle.playback.specs.Named.{IsKept};
-ghost use Rattle.playback.specs.Played.{Playing, Plays, after_entry};
+ghost use Rattle.playback.specs.Played.{Playing, Plays, after_entry, is_maker};
 ghost use Rattle.playback.specs.Players.{IsAt};
 
 use crate::apply::apply;
@@ -41,6 +41,9 @@ struct Player {
 
 /// Keeps the entity that an entry made.
 fn keep(player: &mut Player, entry: &Entry, e: Entity) -> Result<(), Memory>
+    ensures made { OnOk result (player.old.keeps ≡ true → (item row number : ℕ) → player.new.made item row number ≡ (if is_maker entry.now item row number then Some e else player.old.made item row number)) }
+    ensures notes { player.new.notes ≡ player.old.notes }
+    ensures keeps { player.new.keeps ≡ player.old.keeps }
 {
     if !player.keeps {
         return Ok(());
@@ -57,6 +60,9 @@ fn keep(player: &mut Player, entry: &Entry, e: Entity) -> Result<(), Memory>
 
 /// Notes that an entry was skipped.
 fn note(player: &mut Player, entry: &Entry, skip: Skip) -> Result<(), Memory>
+    ensures made { player.new.made ≡ player.old.made }
+    ensures notes { OnOk result (player.new.notes ≡ player.old.notes ++ record { item = entry.now.item; row = entry.now.row; number = entry.now.number; skip = skip } ∷ []) }
+    ensures keeps { player.new.keeps ≡ player.old.keeps }
 {
     player.notes.push(Note {
         item: entry.item,
@@ -103,11 +109,7 @@ fn play_entry(
 /// whatever entities the placeholders stand for.
 ///
 /// Entities that are made are kept only if some entry names a placeholder.
-pub fn play(
-    alloc: Global,
-    world: &mut World,
-    entries: &[Entry],
-) -> Result<Sequence<Note>, Memory>
+pub fn play(alloc: Global, world: &mut World, entries: &[Entry]) -> Result<Sequence<Note>, Memory>
     requires { AllSuit world.old.world.registry entries.now }
     ensures { Plays world.old world.new entries.now result }
 {
