@@ -169,12 +169,17 @@ impl Chain {
         requires { k < length self.now.entries }
         ensures { IfSome (slice_get self.now.entries k) (λ e. result ≡ turn_of e) }
     {
-        let head = self.heads[k as usize];
+        let Head {
+            key,
+            row,
+            number,
+            ..
+        } = self.heads[k as usize];
         Turn {
-            key: head.key,
+            key,
             item: self.item,
-            row: head.row,
-            number: head.number,
+            row,
+            number,
         }
     }
 }
