@@ -3,6 +3,7 @@ ghost use Rattle.std.specs.Prelude.{map, Some};
 ghost use Rattle.world_model.specs.Operations.{Add, Append, Clear, Create, Destroy, Instantiate, Remove, Set, SetEnabled, SetShared};
 ghost use Rattle.run_laws.specs.Suits.{OperationSuits};
 ghost use Rattle.playback.specs.Asked.{on_target, operation_for, part_for};
+ghost use Rattle.playback.specs.Makers.{made_in};
 ghost use Rattle.playback.specs.Played.{Does};
 
 use crate::made::Made;
@@ -27,8 +28,8 @@ fn create(
     from: &[CmdPart],
     parts: &mut Vec<Part>,
 ) -> Result<Option<Entity>, OpFault>
-    requires { OperationSuits world.old.world.registry (Some (Create (map (part_for (made.now item)) from.now))) }
-    ensures { Does world.old world.new (Some (Create (map (part_for (made.now item)) from.now))) result }
+    requires { OperationSuits world.old.world.registry (Some (Create (map (part_for (made_in made.now item)) from.now))) }
+    ensures { Does world.old world.new (Some (Create (map (part_for (made_in made.now item)) from.now))) result }
 {
     made.fill(alloc, item, from, parts)?;
     let e = world.create(parts)?;
@@ -41,7 +42,7 @@ fn instantiate(
     item: u32,
     source: Target,
 ) -> Result<Option<Entity>, OpFault>
-    ensures { Does world.old world.new (on_target (made.now item) source Instantiate) result }
+    ensures { Does world.old world.new (on_target (made_in made.now item) source Instantiate) result }
 {
     let e = made.found(item, source)?;
     let copy = world.instantiate(e)?;
@@ -54,7 +55,7 @@ fn destroy(
     item: u32,
     target: Target,
 ) -> Result<Option<Entity>, OpFault>
-    ensures { Does world.old world.new (on_target (made.now item) target Destroy) result }
+    ensures { Does world.old world.new (on_target (made_in made.now item) target Destroy) result }
 {
     let e = made.found(item, target)?;
     world.destroy(e)?;
@@ -69,8 +70,8 @@ fn add(
     target: Target,
     part: &CmdPart,
 ) -> Result<Option<Entity>, OpFault>
-    requires { OperationSuits world.old.world.registry (on_target (made.now item) target (Add (part_for (made.now item) part.now))) }
-    ensures { Does world.old world.new (on_target (made.now item) target (Add (part_for (made.now item) part.now))) result }
+    requires { OperationSuits world.old.world.registry (on_target (made_in made.now item) target (Add (part_for (made_in made.now item) part.now))) }
+    ensures { Does world.old world.new (on_target (made_in made.now item) target (Add (part_for (made_in made.now item) part.now))) result }
 {
     let e = made.found(item, target)?;
     let part = made.part(alloc, item, part)?;
@@ -85,8 +86,8 @@ fn remove(
     target: Target,
     ty: TypeId,
 ) -> Result<Option<Entity>, OpFault>
-    requires { OperationSuits world.old.world.registry (on_target (made.now item) target (Remove ty.0)) }
-    ensures { Does world.old world.new (on_target (made.now item) target (Remove ty.0)) result }
+    requires { OperationSuits world.old.world.registry (on_target (made_in made.now item) target (Remove ty.0)) }
+    ensures { Does world.old world.new (on_target (made_in made.now item) target (Remove ty.0)) result }
 {
     let e = made.found(item, target)?;
     world.remove(e, ty)?;
@@ -101,8 +102,8 @@ fn set(
     target: Target,
     part: &CmdPart,
 ) -> Result<Option<Entity>, OpFault>
-    requires { OperationSuits world.old.world.registry (on_target (made.now item) target (Set (part_for (made.now item) part.now))) }
-    ensures { Does world.old world.new (on_target (made.now item) target (Set (part_for (made.now item) part.now))) result }
+    requires { OperationSuits world.old.world.registry (on_target (made_in made.now item) target (Set (part_for (made_in made.now item) part.now))) }
+    ensures { Does world.old world.new (on_target (made_in made.now item) target (Set (part_for (made_in made.now item) part.now))) result }
 {
     let e = made.found(item, target)?;
     let part = made.part(alloc, item, part)?;
@@ -117,8 +118,8 @@ fn set_shared(
     target: Target,
     part: &CmdPart,
 ) -> Result<Option<Entity>, OpFault>
-    requires { OperationSuits world.old.world.registry (on_target (made.now item) target (SetShared (part_for (made.now item) part.now))) }
-    ensures { Does world.old world.new (on_target (made.now item) target (SetShared (part_for (made.now item) part.now))) result }
+    requires { OperationSuits world.old.world.registry (on_target (made_in made.now item) target (SetShared (part_for (made_in made.now item) part.now))) }
+    ensures { Does world.old world.new (on_target (made_in made.now item) target (SetShared (part_for (made_in made.now item) part.now))) result }
 {
     let e = made.found(item, target)?;
     let part = made.part(alloc, item, part)?;
@@ -134,8 +135,8 @@ fn set_enabled(
     ty: TypeId,
     on: bool,
 ) -> Result<Option<Entity>, OpFault>
-    requires { OperationSuits world.old.world.registry (on_target (made.now item) target (SetEnabled ty.0 on)) }
-    ensures { Does world.old world.new (on_target (made.now item) target (SetEnabled ty.0 on)) result }
+    requires { OperationSuits world.old.world.registry (on_target (made_in made.now item) target (SetEnabled ty.0 on)) }
+    ensures { Does world.old world.new (on_target (made_in made.now item) target (SetEnabled ty.0 on)) result }
 {
     let e = made.found(item, target)?;
     done(world.set_enabled(e, ty, on))
@@ -149,8 +150,8 @@ fn append(
     target: Target,
     part: &CmdPart,
 ) -> Result<Option<Entity>, OpFault>
-    requires { OperationSuits world.old.world.registry (on_target (made.now item) target (Append (part_for (made.now item) part.now))) }
-    ensures { Does world.old world.new (on_target (made.now item) target (Append (part_for (made.now item) part.now))) result }
+    requires { OperationSuits world.old.world.registry (on_target (made_in made.now item) target (Append (part_for (made_in made.now item) part.now))) }
+    ensures { Does world.old world.new (on_target (made_in made.now item) target (Append (part_for (made_in made.now item) part.now))) result }
 {
     let e = made.found(item, target)?;
     let part = made.part(alloc, item, part)?;
@@ -165,8 +166,8 @@ fn clear(
     target: Target,
     ty: TypeId,
 ) -> Result<Option<Entity>, OpFault>
-    requires { OperationSuits world.old.world.registry (on_target (made.now item) target (Clear ty.0)) }
-    ensures { Does world.old world.new (on_target (made.now item) target (Clear ty.0)) result }
+    requires { OperationSuits world.old.world.registry (on_target (made_in made.now item) target (Clear ty.0)) }
+    ensures { Does world.old world.new (on_target (made_in made.now item) target (Clear ty.0)) result }
 {
     let e = made.found(item, target)?;
     done(world.clear(e, ty))
@@ -181,8 +182,8 @@ pub(crate) fn apply(
     command: &Command,
     parts: &mut Vec<Part>,
 ) -> Result<Option<Entity>, OpFault>
-    requires { OperationSuits world.old.world.registry (operation_for (made.now item) command.now) }
-    ensures { Does world.old world.new (operation_for (made.now item) command.now) result }
+    requires { OperationSuits world.old.world.registry (operation_for (made_in made.now item) command.now) }
+    ensures { Does world.old world.new (operation_for (made_in made.now item) command.now) result }
 {
     match command {
         Command::Create { parts: from } => {
