@@ -1,5 +1,5 @@
 -- The order in which the entries of some chains are played.
-use Rattle.std.specs.Prelude.{◌≡◌, ℤ, ℕ, Bool, ◌&&◌, ◌||◌, nat_eq, nat_lt, int_lt, List, flat_map, Option, Some, None, Result, Ok, Err}
+use Rattle.std.specs.Prelude.{◌≡◌, ℤ, ℕ, Bool, ◌&&◌, ◌||◌, nat_eq, nat_lt, int_lt, List, flat_map, Some, None, Result, Ok, Err}
 use Rattle.std.specs.Ordering.{int_eq}
 use Rattle.std.specs.List.Sorted.{IsPermutation, IsSortedBy}
 use Rattle.ent_types.specs.declared.point.Point.{Point}

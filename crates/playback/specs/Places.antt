@@ -1,5 +1,6 @@
 -- Where entries are kept: the place of the chain, and the place in it.
-use Rattle.std.specs.Prelude.{◌≡◌, ℕ, ◌+◌, ◌<◌, Bool, ◌&&◌, nat_lt, if◌then◌else◌, List, [], ◌∷◌, ◌++◌, length, slice_index_or, Option, Some, None, Result, Ok, Err, pos}
+use Rattle.std.specs.Prelude.{◌≡◌, ℕ, ◌<◌, Bool, ◌&&◌, nat_lt, if◌then◌else◌, List, [], ◌∷◌, map, length, slice_index_or, Option, Some, None, Result, Ok, Err, pos}
+use Rattle.std.specs.List.{flat_map, range_with_len}
 use Rattle.std.specs.Ordering.{int_eq}
 use Rattle.ent_types.specs.Fitting.{null_entity}
 use Rattle.run_model.specs.Buffers.{SharedKey}
@@ -15,22 +16,23 @@ use Rattle.playback.specs.Order.{shared_at}
 
 -- ---- the places of entries
 
--- the places of the entries of one chain, from a place on
-abbrev pub places_in : ℕ → ℕ → List Entry → List Place
-places_in chain k [] = []
-places_in chain k (e ∷ es) = record { turn = turn_of e; chain = chain; entry = k } ∷ places_in chain (k + 1) es
-
--- the places of the entries of some chains, of which the first is at this place
-abbrev pub places_from : ℕ → List ChainState → List Place
-places_from n [] = []
-places_from n (c ∷ cs) = places_in n 0 c.entries ++ places_from (n + 1) cs
-
 -- what is at a place where nothing is
 abbrev pub no_entry : Entry
 no_entry = record { key = pos 0; item = 0; row = 0; number = 0; command = Destroy (Live null_entity) }
 
 abbrev pub no_chain : ChainState
 no_chain = record { item = 0; entries = [] }
+
+-- the place of an entry of a chain, of which this is the number
+abbrev pub place_at : ℕ → ChainState → ℕ → Place
+place_at n c k = record { turn = turn_of (slice_index_or c.entries k no_entry); chain = n; entry = k }
+
+abbrev pub places_in : ℕ → ChainState → List Place
+places_in n c = map (place_at n c) (range_with_len 0 (length c.entries))
+
+-- the places of the entries of some chains, chain by chain
+abbrev pub all_places : List ChainState → List Place
+all_places chains = flat_map (λ n. places_in n (slice_index_or chains n no_chain)) (range_with_len 0 (length chains))
 
 abbrev pub chain_in : List ChainState → Place → ChainState
 chain_in chains p = slice_index_or chains p.chain no_chain

@@ -1,7 +1,7 @@
 //! Where entries are kept, so that they can be put in order before one of them is copied.
 ghost use Rattle.std.specs.Prelude.{◌≡◌, ◌∷◌, ◌++◌, length, map, OnOk, IfOk};
 ghost use Rattle.world_model.specs.Members.{In};
-ghost use Rattle.playback.specs.Places.{IsPlaced, TellsShared, entry_in, places_from, places_in, shared_in};
+ghost use Rattle.playback.specs.Places.{IsPlaced, TellsShared, all_places, entry_in, places_in, shared_in};
 
 use crate::ArrangeEnd;
 use command_record::{Chain, Entry, Turn};
@@ -20,7 +20,7 @@ pub(crate) struct Place {
 
 /// Adds the places of the entries of a chain.
 fn add_places(places: &mut Vec<Place>, number: usize, chain: &Chain) -> Result<(), Memory>
-    ensures { OnOk result (places.new.items ≡ places.old.items ++ places_in number 0 chain.now.entries) }
+    ensures { OnOk result (places.new.items ≡ places.old.items ++ places_in number chain.now) }
 {
     for k in 0..chain.len() {
         places.push(Place {
@@ -34,7 +34,7 @@ fn add_places(places: &mut Vec<Place>, number: usize, chain: &Chain) -> Result<(
 
 /// Returns the places of all entries, chain by chain.
 pub(crate) fn places_of(alloc: Global, chains: &[Chain]) -> Result<Vec<Place>, Memory>
-    ensures { IfOk result (λ places. places.items ≡ places_from 0 chains.now) }
+    ensures { IfOk result (λ places. places.items ≡ all_places chains.now) }
 {
     let mut places = Vec::new(alloc);
     for (number, chain) in chains.iter().enumerate() {
