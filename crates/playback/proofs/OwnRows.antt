@@ -1,5 +1,6 @@
 -- Entries that name placeholders of their own rows alone ask for what the definitions ask for, and are told apart as there.
 use Rattle.std.proofs.Common.{◌≡◌, ℕ, List, [], ◌∷◌, inl, inr, map, Option, Some, None, option_map, unwrap_or, refl, sym, ap, ap₂, ◌∙◌, subst}
+use Rattle.std.proofs.lemmas.List.{map-id}
 use Rattle.ent_types.specs.declared.entity.Entity.{Entity}
 use Rattle.ent_types.specs.declared.point.Point.{Point}
 use Rattle.ent_types.specs.declared.type_info.TypeInfo.{TypeInfo}
@@ -10,7 +11,8 @@ use Rattle.world_model.specs.Members.{In}
 use Rattle.world_model.specs.Part.{PartOf, part_map}
 use Rattle.world_model.specs.Operations.{Act, act_map, Operation, On}
 use Rattle.world_model.specs.Operations as world
-use Rattle.world_laws.proofs.Members.{in_map, map_in}
+use Rattle.world_laws.proofs.Members.{map_in}
+use Rattle.world_places.proofs.Lists.{map_same, map_twice}
 use Rattle.run_model.specs.Commands.{GivenValue, Known, MadeBy, Change, Creates, ActsOn}
 use Rattle.run_model.specs.Commands as model
 use Rattle.run_model.specs.Run as run
@@ -29,14 +31,6 @@ use Rattle.command_record.specs.Entries.{target_of, value_of, part_of, change_of
 use Rattle.playback.specs.Asked.{entity_for, value_for, part_for, on_target, operation_for, AllSuit}
 use Rattle.playback.specs.Laws.{NameOwnRows}
 use Rattle.playback.specs.Order.{AreApart}
-
-map_same : {X Y : Type 0} (f g : X → Y) (xs : List X) → ((x : X) → In x xs → f x ≡ g x) → map f xs ≡ map g xs
-map_same f g [] h = refl
-map_same f g (x ∷ xs) h = ap₂ (λ y ys. y ∷ ys) (h x (inl refl)) (map_same f g xs (λ y i. h y (inr i)))
-
-map_twice : {X Y Z : Type 0} (g : Y → Z) (f : X → Y) (xs : List X) → map g (map f xs) ≡ map (λ x. g (f x)) xs
-map_twice g f [] = refl
-map_twice g f (x ∷ xs) = ap (λ ys. g (f x) ∷ ys) (map_twice g f xs)
 
 -- ---- what a command asks for
 
@@ -122,20 +116,16 @@ module _ (place : ℕ) where
   target_told (Live e) own = refl
   target_told (Placeholder row number) own = ap (λ r. Placeholder r number) (sym own)
 
-  itself : {X : Type 0} (xs : List X) → map (λ x. x) xs ≡ xs
-  itself [] = refl
-  itself (x ∷ xs) = ap (λ ys. x ∷ ys) (itself xs)
-
   part_told : (p : CmdPart) → OwnPart place p → part_back place (part_of p) ≡ p
   part_told p own =
       ap (λ (vs : List CmdValue). let q : CmdPart = record { ty = p.ty; values = vs } in q)
       (map_twice (value_back place) value_of p.values
-      ∙ map_same (λ v. value_back place (value_of v)) (λ v. v) p.values (λ v i. value_told v (own v i)) ∙ itself p.values)
+      ∙ map_same (λ v. value_back place (value_of v)) (λ v. v) p.values (λ v i. value_told v (own v i)) ∙ map-id p.values)
 
   command_told : (c : Command) → OwnCommand place c → command_back place (change_of c) ≡ c
   command_told (Create parts) own =
       ap Create (map_twice (part_back place) part_of parts
-      ∙ map_same (λ p. part_back place (part_of p)) (λ p. p) parts (λ p i. part_told p (own p i)) ∙ itself parts)
+      ∙ map_same (λ p. part_back place (part_of p)) (λ p. p) parts (λ p i. part_told p (own p i)) ∙ map-id parts)
   command_told (Destroy target) own = ap Destroy (target_told target own)
   command_told (Add target part) own = ap₂ Add (target_told target own.0) (part_told part own.1)
   command_told (Remove target ty) own = ap (λ t. Remove t ty) (target_told target own)

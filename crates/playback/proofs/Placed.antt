@@ -1,10 +1,12 @@
 -- The entries at the places of some chains are what the chains recorded.
 use Rattle.std.proofs.Common.{◌≡◌, ℕ, zero, suc, ◌+◌, ◌≤◌, ◌<◌, ◌⊎◌, inl, inr, List, [], ◌∷◌, ◌++◌, length, map, get_or, refl, sym, ap, ap₂, ◌∙◌, subst, arith}
 use Rattle.std.specs.List.{flat_map, range_with_len}
+use Rattle.std.proofs.Math.Path.{fun_ext}
 use Rattle.std.proofs.lemmas.List.FromFn.{fill_by_all}
 use Rattle.std.proofs.lemmas.List.Folds.{flat_map-map}
 use Rattle.world_model.specs.Members.{In}
 use Rattle.world_laws.proofs.Members.{in_map, map_append}
+use Rattle.world_places.proofs.Lists.{map_twice}
 use Rattle.run_laws.proofs.Order.{in_flat_map}
 use Rattle.command_record.specs.declared.chain.Entry.{Entry}
 use Rattle.command_record.specs.Chains.{ChainState, turn_of}
@@ -27,18 +29,10 @@ map_flat : {X Y Z : Type 0} (f : Y → Z) (g : X → List Y) (xs : List X) → m
 map_flat f g [] = refl
 map_flat f g (x ∷ xs) = map_append f (g x) (flat_map g xs) ∙ ap (λ zs. map f (g x) ++ zs) (map_flat f g xs)
 
-flat_same : {X Y : Type 0} (f g : X → List Y) (xs : List X) → ((x : X) → In x xs → f x ≡ g x) → flat_map f xs ≡ flat_map g xs
-flat_same f g [] h = refl
-flat_same f g (x ∷ xs) h = ap₂ (λ ys zs. ys ++ zs) (h x (inl refl)) (flat_same f g xs (λ y i. h y (inr i)))
-
-map_twice : {X Y Z : Type 0} (g : Y → Z) (f : X → Y) (xs : List X) → map g (map f xs) ≡ map (λ x. g (f x)) xs
-map_twice g f [] = refl
-map_twice g f (x ∷ xs) = ap (λ ys. g (f x) ∷ ys) (map_twice g f xs)
-
 pub entries_placed : (chains : List ChainState) → map (entry_in chains) (all_places chains) ≡ all_entries chains
 entries_placed chains =
     map_flat (entry_in chains) (λ n. places_in n (get_or chains n no_chain)) (range_with_len 0 (length chains))
-    ∙ (flat_same (λ n. map (entry_in chains) (places_in n (get_or chains n no_chain))) (λ n. (get_or chains n no_chain).entries) (range_with_len 0 (length chains)) (λ n i. each n)
+    ∙ (ap (λ (f : ℕ → List Entry). flat_map f (range_with_len 0 (length chains))) (fun_ext each)
     ∙ (sym (flat_map-map (λ (c : ChainState). c.entries) (λ n. get_or chains n no_chain) (range_with_len 0 (length chains)))
     ∙ ap (flat_map (λ (c : ChainState). c.entries)) (read_all chains no_chain)))
   where

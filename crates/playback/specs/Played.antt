@@ -87,3 +87,8 @@ Answers old new answer (Err fault.Memory) = Leaves old new old.world
 
 abbrev pub Does : WorldState → WorldState → Option Operation → Result (Option Entity) OpFault → Type 0
 Does old new operation result = Answers old new (done_by (capacity old.world.registry) old.world operation) result
+
+-- what an act of which nothing is made answers
+abbrev pub without_entity : Result (Unit {0}) Skip → Result (Option Entity) OpFault
+without_entity (Ok u) = Ok None
+without_entity (Err cause) = Err (fault.Skip cause)

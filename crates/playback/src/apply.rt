@@ -1,10 +1,10 @@
 //! One command as one operation of a world.
-ghost use Rattle.std.specs.Prelude.{map, Some};
+ghost use Rattle.std.specs.Prelude.{◌≡◌, map, Some};
 ghost use Rattle.world_model.specs.Operations.{Add, Append, Clear, Create, Destroy, Instantiate, Remove, Set, SetEnabled, SetShared};
 ghost use Rattle.run_laws.specs.Suits.{OperationSuits};
 ghost use Rattle.playback.specs.Asked.{on_target, operation_for, part_for};
 ghost use Rattle.playback.specs.Makers.{made_in};
-ghost use Rattle.playback.specs.Played.{Does};
+ghost use Rattle.playback.specs.Played.{Does, without_entity};
 
 use crate::made::Made;
 use command_record::{CmdPart, Command, Target};
@@ -13,8 +13,10 @@ use std::alloc::Global;
 use structural_ops::{OpFault, World};
 
 /// Returns that nothing was made, or why nothing was done.
-fn done(result: Result<(), Skip>) -> Result<Option<Entity>, OpFault> {
-    match result {
+fn done(outcome: Result<(), Skip>) -> Result<Option<Entity>, OpFault>
+    ensures { result ≡ without_entity outcome }
+{
+    match outcome {
         Ok(()) => Ok(None),
         Err(skip) => Err(OpFault::Skip(skip)),
     }

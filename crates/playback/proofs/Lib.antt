@@ -1,0 +1,6 @@
+pub mod OwnRows
+pub mod Apart
+pub mod Turns
+pub mod Placed
+pub mod Arranged
+pub mod Playing
