@@ -4,3 +4,6 @@ pub mod Turns
 pub mod Placed
 pub mod Arranged
 pub mod Playing
+pub mod Named
+pub mod Doing
+pub mod Steps
