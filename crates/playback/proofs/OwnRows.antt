@@ -76,19 +76,19 @@ own_suit registry point es own suits x i made =
 -- ---- which entry the definitions see
 
 -- an entry by what the definitions see of it, with placeholders of its own row
-target_back : ℕ → model.Target → Target
+abbrev target_back : ℕ → model.Target → Target
 target_back place (model.Live e) = Live e
 target_back place (model.Placeholder number) = Placeholder place number
 
-value_back : ℕ → GivenValue → CmdValue
+abbrev value_back : ℕ → GivenValue → CmdValue
 value_back place (Known (values.Int z)) = Int z
 value_back place (Known (values.Ref e)) = Ref (Live e)
 value_back place (MadeBy number) = Ref (Placeholder place number)
 
-part_back : ℕ → PartOf GivenValue → CmdPart
+abbrev part_back : ℕ → PartOf GivenValue → CmdPart
 part_back place p = record { ty = record { 0 = p.type_id }; values = map (value_back place) p.values }
 
-act_back : ℕ → Target → Act GivenValue → Command
+abbrev act_back : ℕ → Target → Act GivenValue → Command
 act_back place t world.Destroy = Destroy t
 act_back place t (world.Add p) = Add t (part_back place p)
 act_back place t (world.Remove ty) = Remove t (record { 0 = ty })
@@ -99,11 +99,11 @@ act_back place t world.Instantiate = Instantiate t
 act_back place t (world.Append p) = Append t (part_back place p)
 act_back place t (world.Clear ty) = Clear t (record { 0 = ty })
 
-command_back : ℕ → Change → Command
+abbrev command_back : ℕ → Change → Command
 command_back place (Creates parts) = Create (map (part_back place) parts)
 command_back place (ActsOn t a) = act_back place (target_back place t) a
 
-entry_back : run.Entry → Entry
+abbrev entry_back : run.Entry → Entry
 entry_back x = record { key = x.command.key; item = x.item; row = x.place; number = x.command.number; command = command_back x.place x.command.change }
 
 module _ (place : ℕ) where
