@@ -1,8 +1,8 @@
 -- What contracts see of a chain.
-use Rattle.std.specs.Prelude.{◌≡◌, ℕ, List}
+use Rattle.std.specs.Prelude.{◌≡◌, ℕ, ℤ, List, [], ◌∷◌, ◌++◌}
 use Rattle.world_model.specs.Members.{In}
+use Rattle.command_record.specs.declared.command.Command.{Command}
 use Rattle.command_record.specs.declared.chain.Entry.{Entry}
-use Rattle.command_record.specs.declared.turn.Turn.{Turn}
 
 -- the number of the item, and what it recorded, in order
 pub record ChainState : Type 0 where
@@ -13,6 +13,8 @@ pub record ChainState : Type 0 where
 abbrev pub AreOwn : ChainState → Type 0
 AreOwn c = (e : Entry) → In e c.entries → e.item ≡ c.item
 
--- when an entry is played
-abbrev pub turn_of : Entry → Turn
-turn_of e = record { key = e.key; item = e.item; row = e.row; number = e.number }
+-- the chain after its item recorded one more command
+abbrev pub with_entry : ChainState → ℤ → ℕ → ℕ → Command → ChainState
+with_entry c key row number command = record c {
+  entries = c.entries ++ record { key = key; item = c.item; row = row; number = number; command = command } ∷ [];
+}

@@ -3,3 +3,4 @@ pub mod Entries
 pub mod Changes
 pub mod Kept
 pub mod Heads
+pub mod Turns

@@ -1,6 +1,8 @@
 //! Chains: what one item records for one point, in order.
-ghost use Rattle.std.specs.Prelude.{◌≡◌, ◌≤◌, ◌<◌, [], ◌∷◌, ◌++◌, length, take, slice_get, Some, IfOk, IfSome, OnOk, OnErr};
-ghost use Rattle.command_record.specs.Chains.{AreOwn, turn_of};
+ghost use Rattle.std.specs.Prelude.{◌≡◌, ◌≤◌, ◌<◌, [], length, take, slice_get, Some, IfOk, OnOk, OnErr};
+ghost use Rattle.command_record.specs.Chains.{AreOwn, with_entry};
+ghost use Rattle.std.specs.Option.{IfSome};
+ghost use Rattle.command_record.specs.Turns.{turn_of};
 
 use crate::command::{CmdValue, Command};
 use crate::kept::{Act, PartHead, Span, act, keep, make_command};
@@ -104,10 +106,8 @@ impl Chain {
     /// The command is copied, so the caller can change its values for the next row.
     pub fn add(&mut self, key: i32, row: u32, number: u32, command: &Command) -> Result<(), Memory>
         requires { length self.old.entries < MOST_ENTRIES }
-        ensures item { self.new.item ≡ self.old.item }
-        ensures ok { OnOk result (self.new.entries ≡ self.old.entries
-            ++ record { key = key; item = self.old.item; row = row; number = number; command = command.now } ∷ []) }
-        ensures err { OnErr result (self.new.entries ≡ self.old.entries) }
+        ensures ok { OnOk result (self.new ≡ with_entry self.old key row number command.now) }
+        ensures err { OnErr result (self.new ≡ self.old) }
     {
         self.heads.reserve(1)?;
         let parts = self.parts.len();
@@ -164,6 +164,7 @@ impl Chain {
             command: make_command(alloc, head.act, parts, values)?,
         })
     }
+
     /// Returns when the entry at a place, from 0, is played. It takes no memory.
     pub fn turn(&self, k: u32) -> Turn
         requires { k < length self.now.entries }

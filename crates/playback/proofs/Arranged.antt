@@ -15,7 +15,8 @@ use Rattle.run_laws.proofs.Arrange.{arranged_is}
 use Rattle.run_laws.proofs.SharedKeys.{neighbours_are_shared}
 use Rattle.command_record.specs.declared.chain.Entry.{Entry}
 use Rattle.command_record.specs.declared.turn.Turn.{Turn}
-use Rattle.command_record.specs.Chains.{ChainState, turn_of}
+use Rattle.command_record.specs.Chains.{ChainState}
+use Rattle.command_record.specs.Turns.{turn_of}
 use Rattle.command_record.specs.Entries.{entry_at, entries_at}
 use Rattle.playback.specs.declared.places.Place.{Place}
 use Rattle.playback.specs.Order.{plays_before, AreApart, AreArranged, all_entries, shared_at}

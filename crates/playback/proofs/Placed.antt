@@ -9,7 +9,8 @@ use Rattle.world_laws.proofs.Members.{in_map, map_append}
 use Rattle.world_places.proofs.Lists.{map_twice}
 use Rattle.run_laws.proofs.Order.{in_flat_map}
 use Rattle.command_record.specs.declared.chain.Entry.{Entry}
-use Rattle.command_record.specs.Chains.{ChainState, turn_of}
+use Rattle.command_record.specs.Chains.{ChainState}
+use Rattle.command_record.specs.Turns.{turn_of}
 use Rattle.playback.specs.declared.places.Place.{Place}
 use Rattle.playback.specs.Order.{all_entries}
 use Rattle.playback.specs.Places.{no_entry, no_chain, place_at, places_in, all_places, chain_in, entry_in, IsPlaced}

@@ -10,7 +10,8 @@ use Rattle.std.proofs.lemmas.List.{get_or-map, length-map}
 use Rattle.world_model.specs.Members.{In}
 use Rattle.command_record.specs.declared.chain.Entry.{Entry}
 use Rattle.command_record.specs.declared.turn.Turn.{Turn}
-use Rattle.command_record.specs.Chains.{ChainState, turn_of}
+use Rattle.command_record.specs.Chains.{ChainState}
+use Rattle.command_record.specs.Turns.{turn_of}
 use Rattle.playback.specs.declared.places.Place.{Place}
 use Rattle.playback.specs.Order.{plays_before}
 use Rattle.playback.specs.Places.{IsPlaced, entry_in, no_entry}

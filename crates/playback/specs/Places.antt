@@ -8,7 +8,8 @@ use Rattle.command_record.specs.declared.command.Target.TheVariants.{Live}
 use Rattle.command_record.specs.declared.command.Command.TheVariants.{Destroy}
 use Rattle.command_record.specs.declared.chain.Entry.{Entry}
 use Rattle.command_record.specs.declared.turn.Turn.{Turn}
-use Rattle.command_record.specs.Chains.{ChainState, turn_of}
+use Rattle.command_record.specs.Chains.{ChainState}
+use Rattle.command_record.specs.Turns.{turn_of}
 use Rattle.playback.specs.declared.arrange.ArrangeEnd.{ArrangeEnd}
 use Rattle.playback.specs.declared.arrange.ArrangeEnd.TheVariants.{KeyShared, Memory}
 use Rattle.playback.specs.declared.places.Place.{Place}
