@@ -5,7 +5,7 @@ ghost use Rattle.std.specs.Option.{IfSome};
 ghost use Rattle.command_record.specs.Turns.{turn_of};
 
 use crate::command::{CmdValue, Command};
-use crate::kept::{Act, PartHead, Span, act, keep, make_command};
+use crate::kept::{Act, PartHead, Span, keep, make_act, make_command};
 use crate::turn::Turn;
 use ent_types::Memory;
 use std::alloc::Global;
@@ -121,7 +121,7 @@ impl Chain {
             key,
             row,
             number,
-            act: act(command),
+            act: make_act(command),
             parts: Span {
                 start: parts,
                 end: self.parts.len(),

@@ -64,7 +64,7 @@ pub(crate) struct Span {
 }
 
 /// Returns a command without the values of its parts.
-pub(crate) fn act(command: &Command) -> Act
+pub(crate) fn make_act(command: &Command) -> Act
     ensures { result ≡ act_of command.now }
 {
     match command {

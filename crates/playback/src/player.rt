@@ -60,7 +60,7 @@ fn keep(player: &mut Player, entry: &Entry, e: Entity) -> Result<(), Memory>
 }
 
 /// Notes that an entry was skipped.
-fn note(player: &mut Player, entry: &Entry, skip: Skip) -> Result<(), Memory>
+fn add_note(player: &mut Player, entry: &Entry, skip: Skip) -> Result<(), Memory>
     ensures made { player.new.made ≡ player.old.made }
     ensures notes { OnOk result (player.new.notes ≡ player.old.notes ++ record { item = entry.now.item; row = entry.now.row; number = entry.now.number; skip = skip } ∷ []) }
     ensures keeps { player.new.keeps ≡ player.old.keeps }
@@ -97,7 +97,7 @@ fn play_entry(
     ) {
         Ok(None) => Ok(()),
         Ok(Some(e)) => keep(player, entry, e),
-        Err(OpFault::Skip(skip)) => note(player, entry, skip),
+        Err(OpFault::Skip(skip)) => add_note(player, entry, skip),
         Err(OpFault::Memory) => Err(Memory),
     }
 }
