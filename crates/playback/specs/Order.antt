@@ -8,8 +8,8 @@ use Rattle.run_model.specs.Buffers.{SharedKey, shared_key}
 use Rattle.command_record.specs.declared.chain.Entry.{Entry}
 use Rattle.command_record.specs.Chains.{ChainState}
 use Rattle.command_record.specs.Entries.{entries_at}
-use Rattle.playback.specs.declared.arrange.ArrangeEnd.{ArrangeEnd}
-use Rattle.playback.specs.declared.arrange.ArrangeEnd.TheVariants.{KeyShared, Memory}
+use Rattle.playback.specs.declared.order.ArrangeEnd.{ArrangeEnd}
+use Rattle.playback.specs.declared.order.ArrangeEnd.TheVariants.{KeyShared, Memory}
 
 -- by key, then item, then row, then number
 abbrev pub plays_before : Entry → Entry → Bool

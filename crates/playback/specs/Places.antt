@@ -10,8 +10,8 @@ use Rattle.command_record.specs.declared.chain.Entry.{Entry}
 use Rattle.command_record.specs.declared.turn.Turn.{Turn}
 use Rattle.command_record.specs.Chains.{ChainState}
 use Rattle.command_record.specs.Turns.{turn_of}
-use Rattle.playback.specs.declared.arrange.ArrangeEnd.{ArrangeEnd}
-use Rattle.playback.specs.declared.arrange.ArrangeEnd.TheVariants.{KeyShared, Memory}
+use Rattle.playback.specs.declared.order.ArrangeEnd.{ArrangeEnd}
+use Rattle.playback.specs.declared.order.ArrangeEnd.TheVariants.{KeyShared, Memory}
 use Rattle.playback.specs.declared.places.Place.{Place}
 use Rattle.playback.specs.Order.{shared_at}
 

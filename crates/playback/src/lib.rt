@@ -5,16 +5,16 @@
 #![tactic(auto)]
 
 mod apply;
-mod arrange;
 mod laws;
 mod made;
 mod names;
+mod order;
 mod places;
 mod player;
 
-pub use arrange::{ArrangeEnd, arrange};
 pub use laws::{
     entries_of_chains_are_apart, entries_of_own_rows_are_apart,
     entries_of_own_rows_play_as_defined, entries_of_own_rows_suit,
 };
+pub use order::{ArrangeEnd, arrange};
 pub use player::{Note, play};

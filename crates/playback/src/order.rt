@@ -28,7 +28,7 @@ pub enum ArrangeEnd {
 
 impl From<Memory> for ArrangeEnd {
     ghost use Rattle.std.specs.Prelude.{◌≡◌};
-    ghost use Rattle.playback.specs.declared.arrange.ArrangeEnd.TheVariants as ends;
+    ghost use Rattle.playback.specs.declared.order.ArrangeEnd.TheVariants as ends;
 
     ghost from_gives = { λ _ end. end ≡ ends.Memory };
 
