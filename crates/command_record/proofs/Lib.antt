@@ -1,3 +1,4 @@
 pub mod Spans
-pub mod Kept
+pub mod GivenBack
 pub mod Chains
+pub mod Changed

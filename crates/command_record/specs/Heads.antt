@@ -1,5 +1,5 @@
 -- A chain as it is kept: a head for each entry, which says where the entry's parts and values are in two flat lists.
-use Rattle.std.specs.Prelude.{◌≡◌, ℕ, ◌≤◌, ◌<◌, List, length, map, All, AllPairs}
+use Rattle.std.specs.Prelude.{ℕ, ◌≤◌, List, length, map, All, AllPairs}
 use Rattle.command_record.specs.declared.command.CmdValue.{CmdValue}
 use Rattle.command_record.specs.declared.kept.PartHead.{PartHead}
 use Rattle.command_record.specs.declared.kept.Span.{Span}

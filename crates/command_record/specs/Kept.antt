@@ -1,5 +1,5 @@
 -- How commands are kept in flat lists, and the command that what is kept gives back.
-use Rattle.std.specs.Prelude.{◌≡◌, ℕ, ◌≤◌, ◌<◌, List, [], ◌∷◌, length, map, sum_by, take, drop, flat_map, slice_range}
+use Rattle.std.specs.Prelude.{ℕ, List, [], ◌∷◌, length, map, sum_by, take, drop, flat_map, slice_range}
 use Rattle.command_record.specs.declared.command.CmdValue.{CmdValue}
 use Rattle.command_record.specs.declared.command.CmdPart.{CmdPart}
 use Rattle.command_record.specs.declared.command.Command.{Command}

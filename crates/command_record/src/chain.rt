@@ -6,7 +6,6 @@ ghost use Rattle.command_record.specs.Turns.{turn_of};
 
 use crate::command::{CmdValue, Command};
 use crate::kept::{Act, PartHead, Span, keep, make_act, make_command};
-use crate::turn::Turn;
 use ent_types::Memory;
 use std::alloc::Global;
 use std::marker::Model;
@@ -139,10 +138,12 @@ impl Chain {
         requires { len ≤ length self.old.entries }
         ensures { self.new ≡ record self.old { entries = take len self.old.entries } }
     {
-        let Some(next) = self.heads.get(len as usize).copied() else {
+        let len = len as usize;
+        if len == self.heads.len() {
             return;
-        };
-        self.heads.truncate(len as usize);
+        }
+        let next = self.heads[len];
+        self.heads.truncate(len);
         self.parts.truncate(next.parts.start);
         self.values.truncate(next.values.start);
     }

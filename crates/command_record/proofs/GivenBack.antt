@@ -1,9 +1,8 @@
 -- What is kept of a command gives the command back.
-use Rattle.std.proofs.Common.{◌≡◌, ◌+◌, ◌≤◌, List, [], ◌∷◌, ◌++◌, length, map, refl, sym, ap, ap₂, ◌∙◌, arith}
+use Rattle.std.proofs.Common.{◌≡◌, ◌+◌, ◌≤◌, List, [], ◌∷◌, length, map, refl, sym, ap, ap₂, ◌∙◌, arith}
 use Rattle.std.proofs.lemmas.List.{length-append, take_at, drop_at}
 use Rattle.std.proofs.lemmas.List.Sums.{sum_by-cons}
 use Rattle.command_record.specs.declared.command.CmdPart.{CmdPart}
-use Rattle.command_record.specs.declared.command.CmdValue.{CmdValue}
 use Rattle.command_record.specs.declared.command.Command.{Command}
 use Rattle.command_record.specs.declared.command.Command.TheVariants.{Create, Destroy, Add, Remove, Set, SetShared, SetEnabled, Instantiate, Append, Clear}
 use Rattle.command_record.specs.declared.kept.PartHead.{PartHead}
