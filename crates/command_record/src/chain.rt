@@ -1,11 +1,12 @@
 //! Chains: what one item records for one point, in order.
 ghost use Rattle.std.specs.Prelude.{◌≡◌, ◌≤◌, ◌<◌, [], length, take, slice_get, Some, IfOk, OnOk, OnErr};
-ghost use Rattle.command_record.specs.Chains.{AreOwn, with_entry};
 ghost use Rattle.std.specs.Option.{IfSome};
 ghost use Rattle.command_record.specs.Turns.{turn_of};
+ghost use Rattle.command_record.specs.Chains.{AreOwn, with_entry};
 
 use crate::command::{CmdValue, Command};
 use crate::kept::{Act, PartHead, Span, keep, make_act, make_command};
+use crate::turn::Turn;
 use ent_types::Memory;
 use std::alloc::Global;
 use std::marker::Model;
