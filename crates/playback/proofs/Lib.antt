@@ -5,5 +5,6 @@ pub mod Placed
 pub mod Arranged
 pub mod Playing
 pub mod Named
+pub mod Neighbours
 pub mod Doing
 pub mod Steps

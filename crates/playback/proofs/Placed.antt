@@ -22,6 +22,9 @@ in_range a zero k i = absurd i
 in_range a (suc n) k (inl e) = omega arith
 in_range a (suc n) k (inr i) = let h = in_range (a + 1) n k i in omega arith
 
+in_below : (n k : ℕ) → In k (range_with_len 0 n) → k < n
+in_below n k i = let h = in_range 0 n k i in omega arith
+
 -- a list is what it has at its places
 read_all : {X : Type 0} (xs : List X) (d : X) → map (λ k. get_or xs k d) (range_with_len 0 (length xs)) ≡ xs
 read_all xs d = sym (fill_by_all (λ k. get_or xs k d) xs (length xs) d refl (λ k less. refl))
@@ -46,4 +49,4 @@ pub places_placed : (chains : List ChainState) (p : Place) → In p (all_places 
 places_placed chains p i =
     let (n, j, k) = in_flat_map (λ n. places_in n (get_or chains n no_chain)) p (range_with_len 0 (length chains)) i in
     let (m, l, e) = in_map (place_at n (get_or chains n no_chain)) p (range_with_len 0 (length (get_or chains n no_chain).entries)) k in
-    subst (IsPlaced chains) (sym e) (record { chain = in_range 0 (length chains) n j; entry = in_range 0 (length (get_or chains n no_chain).entries) m l; turn = refl })
+    subst (IsPlaced chains) (sym e) (record { chain = in_below (length chains) n j; entry = in_below (length (get_or chains n no_chain).entries) m l; turn = refl })

@@ -34,12 +34,12 @@ module _ (point : Point) where
 
   found_same : (x : Entry) (n : ℕ) (ms : List MadeBy) → made_for (map made_seen ms) (entry_at point x) n ≡ made_at ms x.item x.row n
   found_same x n [] = refl
-  found_same x n (m ∷ ms) = by (is_maker m.entry x.item x.row n)
+  found_same x n (m ∷ ms) = by (is_maker m.entry x.item x.row n) (found_same x n ms)
     where
-      by : (b : Bool) → option_map (λ (k : MadeEntity). k.entity) (cond b (Some (made_seen m)) (find (λ (k : MadeEntity). model.is_same_spot k.entry (entry_at point x) && nat_eq k.entry.command.number n) (map made_seen ms)))
+      by : (b : Bool) → made_for (map made_seen ms) (entry_at point x) n ≡ made_at ms x.item x.row n → option_map (λ (k : MadeEntity). k.entity) (cond b (Some (made_seen m)) (find (λ (k : MadeEntity). model.is_same_spot k.entry (entry_at point x) && nat_eq k.entry.command.number n) (map made_seen ms)))
           ≡ option_map (λ (k : MadeBy). k.entity) (cond b (Some m) (find (λ (k : MadeBy). is_maker k.entry x.item x.row n) ms))
-      by true = refl
-      by false = found_same x n ms
+      by true rest = refl
+      by false rest = rest
 
   made_after : (x : Entry) (r : Reply) (ms : List MadeBy) → model.with_made (entry_at point x) r (map made_seen ms) ≡ map made_seen (with_made x r ms)
   made_after x (Made e) ms = refl

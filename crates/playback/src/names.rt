@@ -29,12 +29,18 @@ fn names_of_part(part: &CmdPart) -> bool
         .any(|value| names_of_value(*value))
 }
 
+fn names_of_parts(parts: &[CmdPart]) -> bool
+    ensures { result ≡ list_any names_part parts.now }
+{
+    parts.iter().any(|part| names_of_part(part))
+}
+
 /// Says whether a command names a placeholder.
 fn names_of_command(command: &Command) -> bool
     ensures { result ≡ names_in command.now }
 {
     match command {
-        Command::Create { parts } => parts.as_slice().iter().any(|part| names_of_part(part)),
+        Command::Create { parts } => names_of_parts(parts.as_slice()),
         Command::Destroy { target } => names(*target),
         Command::Add { target, part } => names(*target) || names_of_part(part),
         Command::Remove { target, .. } => names(*target),

@@ -3,9 +3,9 @@ ghost use Rattle.std.specs.Prelude.{◌≡◌, ℕ, true, ◌⊎◌, [], ◌∷�
 ghost use Rattle.world_model.specs.World.{capacity};
 ghost use Rattle.structural_ops.specs.Worlds.{Grows};
 ghost use Rattle.playback.specs.Asked.{AllSuit, CommandSuits};
-ghost use Rattle.playback.specs.Makers.{made_in};
+ghost use Rattle.playback.specs.Makers.{made_in, maker, maker_of, same_maker};
 ghost use Rattle.playback.specs.Named.{IsKept};
-ghost use Rattle.playback.specs.Played.{Playing, Plays, after_entry, is_maker};
+ghost use Rattle.playback.specs.Played.{Playing, Plays, after_entry};
 ghost use Rattle.playback.specs.Players.{IsAt};
 
 use crate::apply::apply;
@@ -42,7 +42,7 @@ struct Player {
 
 /// Keeps the entity that an entry made.
 fn keep(player: &mut Player, entry: &Entry, e: Entity) -> Result<(), Memory>
-    ensures made { OnOk result (player.old.keeps ≡ true → (item row number : ℕ) → made_in player.new.made item row number ≡ (if is_maker entry.now item row number then Some e else made_in player.old.made item row number)) }
+    ensures made { OnOk result (player.old.keeps ≡ true → (item row number : ℕ) → made_in player.new.made item row number ≡ (if same_maker (maker_of entry.now) (maker item row number) then Some e else made_in player.old.made item row number)) }
     ensures notes { player.new.notes ≡ player.old.notes }
     ensures keeps { player.new.keeps ≡ player.old.keeps }
 {
