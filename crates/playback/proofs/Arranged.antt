@@ -1,5 +1,5 @@
 -- What is sorted by the turns of its places is arranged, and its neighbours tell a shared key.
-use Rattle.std.proofs.Common.{◌≡◌, ℕ, ◌+◌, ◌<◌, inl, inr, Bool, if◌then◌else◌, List, [], ◌∷◌, length, map, get_or, Option, Some, None, refl, sym, ap, ap₂, ◌∙◌, subst, arith}
+use Rattle.std.proofs.Common.{◌≡◌, ℕ, ◌+◌, ◌<◌, inl, inr, Bool, if◌then◌else◌, List, [], ◌∷◌, length, map, get_or, Option, Some, None, Ok, Err, refl, sym, ap, ap₂, ◌∙◌, subst, arith}
 use Rattle.std.specs.List.Sorted.{IsPermutation, IsSortedBy}
 use Rattle.std.specs.Ordering.{is_lt}
 use Rattle.std.proofs.lemmas.List.{get_or-map, length-map}
@@ -19,8 +19,10 @@ use Rattle.command_record.specs.Chains.{ChainState}
 use Rattle.command_record.specs.Turns.{turn_of}
 use Rattle.command_record.specs.Entries.{entry_at, entries_at}
 use Rattle.playback.specs.declared.places.Place.{Place}
-use Rattle.playback.specs.Order.{plays_before, AreApart, AreArranged, all_entries, shared_at}
-use Rattle.playback.specs.Places.{no_entry, entry_in, all_places, IsPlaced, shares, shared_after, shared_in}
+use Rattle.playback.specs.declared.order.ArrangeEnd.{ArrangeEnd}
+use Rattle.playback.specs.declared.order.ArrangeEnd.TheVariants.{KeyShared, Memory}
+use Rattle.playback.specs.Order.{plays_before, AreApart, AreArranged, Arranges, all_entries, shared_at}
+use Rattle.playback.specs.Places.{no_entry, entry_in, all_places, IsPlaced, shares, shared_after, shared_in, TellsShared}
 use Rattle.playback.proofs.Turns.{turn_cmp, placed_sorted}
 use Rattle.playback.proofs.Placed.{entries_placed, places_placed}
 
@@ -68,19 +70,33 @@ module _ (point : Point) (chains : List ChainState) where
 
 -- ---- places in order
 
-module _ (chains : List ChainState) (qs : List Place) (moved : IsPermutation (all_places chains) qs) where
+module _ (chains : List ChainState) (ps qs : List Place) (are : ps ≡ all_places chains) (moved : IsPermutation ps qs) where
   pub all_placed : (p : Place) → In p qs → IsPlaced chains p
-  all_placed = members_permuted (IsPlaced chains) (all_places chains) qs moved (places_placed chains)
+  all_placed = members_permuted (IsPlaced chains) ps qs moved (λ p i. places_placed chains p (subst (In p) are i))
 
-  module _ (sorted : IsSortedBy (λ (p q : Place). is_lt (turn_cmp p.turn q.turn)) qs) where
-    pub placed_arranged : AreArranged (all_entries chains) (map (entry_in chains) qs)
+  module _ (sorted : IsSortedBy (λ (p q : Place). is_lt (turn_cmp p.turn q.turn)) qs) (two : AreApart (all_entries chains)) where
+    placed_arranged : AreArranged (all_entries chains) (map (entry_in chains) qs)
     placed_arranged = record {
-      same = subst (λ es. IsPermutation es (map (entry_in chains) qs)) (entries_placed chains) (IsPermutation-map (entry_in chains) (all_places chains) qs moved);
+      same = subst (λ es. IsPermutation es (map (entry_in chains) qs)) (ap (map (entry_in chains)) are ∙ entries_placed chains) (IsPermutation-map (entry_in chains) ps qs moved);
       sorted = placed_sorted chains qs all_placed sorted;
     }
 
-    pub shared_told : AreApart (all_entries chains) → (point : Point) → shared_key (entries_at point (all_entries chains)) ≡ shared_in qs
-    shared_told two point =
+    shared_told : (point : Point) → shared_key (entries_at point (all_entries chains)) ≡ shared_in qs
+    shared_told point =
         sym (neighbours_are_shared (entries_at point (all_entries chains)))
         ∙ (ap shared_neighbours (sym (arranged_at point (all_entries chains) (map (entry_in chains) qs) two placed_arranged))
         ∙ neighbours_in point chains qs all_placed)
+
+    pub tells_shared : (end : ArrangeEnd) → TellsShared (shared_in qs) (Err end) → Arranges (all_entries chains) (Err end)
+    tells_shared (KeyShared key first second) told point = shared_told point ∙ told
+    tells_shared Memory told = tt
+
+    module _ (rs : List Place) (shown : rs ≡ qs) (fs : List Entry) (copied : fs ≡ map (entry_in chains) rs) where
+      in_order : AreArranged (all_entries chains) fs
+      in_order = subst (AreArranged (all_entries chains)) (ap (map (entry_in chains)) (sym shown) ∙ sym copied) placed_arranged
+
+      pub is_arranged : shared_in qs ≡ None → Arranges (all_entries chains) (Ok fs)
+      is_arranged none = (in_order, λ point. shared_told point ∙ none)
+
+      pub is_defined : (point : Point) → entries_at point fs ≡ arranged (entries_at point (all_entries chains))
+      is_defined point = arranged_at point (all_entries chains) fs two in_order

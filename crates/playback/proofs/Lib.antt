@@ -6,5 +6,5 @@ pub mod Arranged
 pub mod Playing
 pub mod Named
 pub mod Neighbours
-pub mod Doing
+pub mod Ends
 pub mod Steps

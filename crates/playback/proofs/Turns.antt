@@ -65,7 +65,7 @@ less_turn x y =
 
 -- ---- lists
 
-in_at : {X : Type 0} (xs : List X) (i : ℕ) (d : X) → i < length xs → In (get_or xs i d) xs
+pub in_at : {X : Type 0} (xs : List X) (i : ℕ) (d : X) → i < length xs → In (get_or xs i d) xs
 in_at [] i d less = absurd (omega arith)
 in_at (x ∷ xs) zero d less = inl refl
 in_at (x ∷ xs) (suc i) d less = inr (in_at xs i d (omega arith))

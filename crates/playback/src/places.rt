@@ -1,7 +1,7 @@
 //! Where entries are kept, so that they can be put in order before one of them is copied.
 ghost use Rattle.std.specs.Prelude.{◌≡◌, ◌∷◌, ◌++◌, length, map, OnOk, IfOk};
 ghost use Rattle.world_model.specs.Members.{In};
-ghost use Rattle.playback.specs.Places.{IsPlaced, TellsShared, all_places, entry_in, places_in, shared_in};
+ghost use Rattle.playback.specs.Places.{IsPlaced, TellsShared, all_places, entry_in, places_in, shared_in, shares};
 
 use crate::ArrangeEnd;
 use command_record::{Chain, Entry, Turn};
@@ -43,13 +43,20 @@ pub(crate) fn places_of(alloc: Global, chains: &[Chain]) -> Result<Vec<Place>, M
     Ok(places)
 }
 
+/// Says whether two turns have one key, and the first a lower item than the second.
+fn share_key(first: Turn, second: Turn) -> bool
+    ensures { result ≡ shares first second }
+{
+    first.key == second.key && first.item < second.item
+}
+
 /// Refuses places of which two neighbours have one key, and the first a lower item than the second.
 pub(crate) fn refuse_shared(places: &[Place]) -> Result<(), ArrangeEnd>
     ensures { TellsShared (shared_in places.now) result }
 {
     for k in 1..places.len() {
         let (first, second) = (places[k - 1].turn, places[k].turn);
-        if first.key == second.key && first.item < second.item {
+        if share_key(first, second) {
             return Err(ArrangeEnd::KeyShared {
                 key: first.key,
                 first_item: first.item,
