@@ -1,10 +1,8 @@
 -- Entries of chains of distinct items are apart.
-use Rattle.std.proofs.Common.{◌≡◌, ℕ, List, [], ◌∷◌, inl, inr, map, refl, sym, ◌∙◌, ap, subst}
-use Rattle.std.specs.List.{flat_map}
+use Rattle.std.proofs.Common.{◌≡◌, ℕ, List, [], ◌∷◌, inl, inr, map, sym, ◌∙◌, ap, subst}
 use Rattle.world_model.specs.Members.{In, AreDistinct}
 use Rattle.world_laws.proofs.Members.{map_in}
 use Rattle.run_laws.proofs.Order.{in_flat_map}
-use Rattle.command_record.specs.declared.chain.Entry.{Entry}
 use Rattle.command_record.specs.Chains.{ChainState, AreOwn}
 use Rattle.playback.specs.Laws.{AreOnce}
 use Rattle.playback.specs.Order.{AreApart, all_entries}

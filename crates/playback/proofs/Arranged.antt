@@ -1,5 +1,5 @@
 -- What is sorted by the turns of its places is arranged, and its neighbours tell a shared key.
-use Rattle.std.proofs.Common.{◌≡◌, ℕ, ◌+◌, ◌<◌, inl, inr, Bool, if◌then◌else◌, List, [], ◌∷◌, length, map, get_or, Option, Some, None, Ok, Err, refl, sym, ap, ap₂, ◌∙◌, subst, arith}
+use Rattle.std.proofs.Common.{◌≡◌, ◌+◌, ◌<◌, inl, inr, if◌then◌else◌, List, [], ◌∷◌, length, map, Some, None, Ok, Err, refl, sym, ap, ap₂, ◌∙◌, subst, arith}
 use Rattle.std.specs.List.Sorted.{IsPermutation, IsSortedBy}
 use Rattle.std.specs.Ordering.{is_lt}
 use Rattle.std.proofs.lemmas.List.{get_or-map, length-map}
@@ -9,7 +9,7 @@ use Rattle.world_model.specs.Members.{In}
 use Rattle.world_laws.proofs.Members.{in_map}
 use Rattle.world_loans.proofs.Ordered.{members_permuted}
 use Rattle.run_model.specs.Run as run
-use Rattle.run_model.specs.Buffers.{before, arranged, shared_key, share_key, shared_by, neighbours_from, shared_neighbours, SharedKey}
+use Rattle.run_model.specs.Buffers.{before, arranged, shared_key, share_key, shared_by, neighbours_from, shared_neighbours}
 use Rattle.run_laws.specs.Entries.{AreDifferent}
 use Rattle.run_laws.proofs.Arrange.{arranged_is}
 use Rattle.run_laws.proofs.SharedKeys.{neighbours_are_shared}
@@ -88,8 +88,8 @@ module _ (chains : List ChainState) (ps qs : List Place) (are : ps ≡ all_place
         ∙ neighbours_in point chains qs all_placed)
 
     pub tells_shared : (end : ArrangeEnd) → TellsShared (shared_in qs) (Err end) → Arranges (all_entries chains) (Err end)
-    tells_shared (KeyShared key first second) told point = shared_told point ∙ told
-    tells_shared Memory told = tt
+    tells_shared (KeyShared key first second) told = λ point. shared_told point ∙ told
+    tells_shared Memory told = absurd told
 
     module _ (rs : List Place) (shown : rs ≡ qs) (fs : List Entry) (copied : fs ≡ map (entry_in chains) rs) where
       in_order : AreArranged (all_entries chains) fs

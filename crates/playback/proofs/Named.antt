@@ -1,5 +1,5 @@
 -- A command that names no placeholder asks for one thing, whatever placeholders stand for.
-use Rattle.std.proofs.Common.{◌≡◌, ℕ, Bool, false, ◌||◌, List, [], ◌∷◌, inl, inr, map, Option, Some, None, option_map, unwrap_or, refl, ap, ap₂, ◌∙◌, true≢false}
+use Rattle.std.proofs.Common.{◌≡◌, ℕ, Bool, false, ◌||◌, List, [], ◌∷◌, inl, inr, Option, Some, option_map, unwrap_or, refl, ap, ap₂, ◌∙◌, true≢false}
 use Rattle.std.specs.List.{list_any}
 use Rattle.std.proofs.lemmas.Bool.{or_parts}
 use Rattle.ent_types.specs.declared.entity.Entity.{Entity}

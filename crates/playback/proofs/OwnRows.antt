@@ -1,5 +1,5 @@
 -- Entries that name placeholders of their own rows alone ask for what the definitions ask for, and are told apart as there.
-use Rattle.std.proofs.Common.{◌≡◌, ℕ, List, [], ◌∷◌, inl, inr, map, Option, Some, None, option_map, unwrap_or, refl, sym, ap, ap₂, ◌∙◌, subst}
+use Rattle.std.proofs.Common.{◌≡◌, ℕ, List, map, Option, Some, option_map, unwrap_or, refl, sym, ap, ap₂, ◌∙◌, subst}
 use Rattle.std.proofs.lemmas.List.{map-id}
 use Rattle.ent_types.specs.declared.entity.Entity.{Entity}
 use Rattle.ent_types.specs.declared.point.Point.{Point}
@@ -7,7 +7,6 @@ use Rattle.ent_types.specs.declared.type_info.TypeInfo.{TypeInfo}
 use Rattle.ent_types.specs.declared.value.Value.{Value}
 use Rattle.ent_types.specs.declared.value.Value.TheVariants as values
 use Rattle.ent_types.specs.Fitting.{null_entity}
-use Rattle.world_model.specs.Members.{In}
 use Rattle.world_model.specs.Part.{PartOf, part_map}
 use Rattle.world_model.specs.Operations.{Act, act_map, Operation, On}
 use Rattle.world_model.specs.Operations as world
@@ -28,7 +27,7 @@ use Rattle.command_record.specs.declared.command.Command.{Command}
 use Rattle.command_record.specs.declared.command.Command.TheVariants.{Create, Destroy, Add, Remove, Set, SetShared, SetEnabled, Instantiate, Append, Clear}
 use Rattle.command_record.specs.declared.chain.Entry.{Entry}
 use Rattle.command_record.specs.Entries.{target_of, value_of, part_of, change_of, entry_at, entries_at, OwnTarget, OwnValue, OwnPart, OwnCommand}
-use Rattle.playback.specs.Asked.{entity_for, value_for, part_for, on_target, operation_for, AllSuit}
+use Rattle.playback.specs.Asked.{value_for, part_for, on_target, operation_for, AllSuit}
 use Rattle.playback.specs.Laws.{NameOwnRows}
 use Rattle.playback.specs.Order.{AreApart}
 

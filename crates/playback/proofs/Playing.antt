@@ -1,11 +1,11 @@
 -- Entries that name placeholders of their own rows alone are played as the definitions say.
-use Rattle.std.proofs.Common.{◌≡◌, ℕ, Bool, true, false, cond, ◌&&◌, nat_eq, List, [], ◌∷◌, ◌++◌, inl, inr, map, find, Option, Some, None, option_map, refl, sym, ap, ap₂, ◌∙◌, subst}
+use Rattle.std.proofs.Common.{◌≡◌, ℕ, Bool, true, false, cond, ◌&&◌, nat_eq, List, [], ◌∷◌, ◌++◌, inl, inr, map, find, Option, Some, option_map, refl, sym, ap, ap₂, ◌∙◌}
 use Rattle.std.proofs.Math.Path.{fun_ext}
 use Rattle.ent_types.specs.declared.entity.Entity.{Entity}
 use Rattle.ent_types.specs.declared.point.Point.{Point}
 use Rattle.world_model.specs.Members.{In}
 use Rattle.world_model.specs.World.{World, capacity}
-use Rattle.world_model.specs.Operations.{Operation, Reply, Made, Done, Skipped, Answer}
+use Rattle.world_model.specs.Operations.{Reply, Made, Done, Skipped, Answer}
 use Rattle.world_laws.proofs.Members.{map_append}
 use Rattle.world_loans.proofs.Ordered.{member_permuted}
 use Rattle.run_model.specs.Buffers.{arranged}
@@ -14,7 +14,6 @@ use Rattle.run_model.specs.Playback as model
 use Rattle.command_record.specs.declared.chain.Entry.{Entry}
 use Rattle.command_record.specs.Entries.{change_of, entry_at, entries_at}
 use Rattle.playback.specs.declared.player.Note.{Note}
-use Rattle.playback.specs.Asked.{operation_for}
 use Rattle.playback.specs.Laws.{NameOwnRows, note_seen}
 use Rattle.playback.specs.Order.{AreApart, AreArranged}
 use Rattle.playback.specs.Played.{MadeBy, Playing, is_maker, made_at, answer_to, with_made, note_of, after_entry, after_entries, not_begun, played}

@@ -1,15 +1,14 @@
 -- Playback entry by entry.
-use Rattle.std.proofs.Common.{◌≡◌, ℕ, ◌+◌, ◌<◌, ◌⊎◌, inl, inr, true, false, Bool, cond, ◌&&◌, nat_eq, if◌then◌else◌, List, [], ◌∷◌, ◌++◌, length, get_or, take, find, option_map, Option, Some, None, Result, Ok, Err, refl, sym, ap, ap₂, ◌∙◌, subst, append-nil, arith}
+use Rattle.std.proofs.Common.{◌≡◌, ℕ, ◌+◌, ◌<◌, true, false, Bool, cond, ◌&&◌, nat_eq, if◌then◌else◌, List, [], ◌∷◌, ◌++◌, length, get_or, take, find, option_map, Option, Some, None, Result, Ok, Err, refl, sym, ap, ap₂, ◌∙◌, subst, append-nil}
 use Rattle.std.proofs.Math.Path.{fun_ext}
 use Rattle.std.proofs.lemmas.List.{take_more}
 use Rattle.ent_types.specs.declared.entity.Entity.{Entity}
 use Rattle.ent_types.specs.declared.skip.Skip.{Skip}
-use Rattle.world_model.specs.Members.{In}
 use Rattle.world_model.specs.World.{World, capacity}
 use Rattle.world_model.specs.Operations.{Operation, Reply, Made, Done, Skipped, Answer}
 use Rattle.world_laws.proofs.Built.{operate_registry}
 use Rattle.run_model.specs.Playback.{done_by}
-use Rattle.structural_ops.specs.Worlds.{WorldState, Grows}
+use Rattle.structural_ops.specs.Worlds.{WorldState}
 use Rattle.command_record.specs.declared.chain.Entry.{Entry}
 use Rattle.playback.specs.declared.player.Note.{Note}
 use Rattle.playback.specs.declared.player.Player.{Player}
@@ -18,7 +17,7 @@ use Rattle.structural_ops.specs.declared.fault.OpFault.{OpFault}
 use Rattle.structural_ops.specs.declared.fault.OpFault.TheVariants as fault
 use Rattle.playback.specs.declared.made.Made.{Made as MadeEntities}
 use Rattle.playback.specs.Makers.{made_in, maker, maker_of, same_maker}
-use Rattle.playback.specs.Named.{IsKept, names_in}
+use Rattle.playback.specs.Named.{IsKept}
 use Rattle.playback.specs.Played.{MadeBy, Playing, is_maker, made_at, answer_to, with_made, note_of, after_entry, after_entries, not_begun, played, Answers, Does}
 use Rattle.playback.specs.Players.{IsAt}
 use Rattle.playback.proofs.Named.{operation_free}

@@ -1,6 +1,6 @@
 -- What commands ask of a world, by what their placeholders stand for: `made row number` is the entity that the command of this
 -- number made for the row at this place.
-use Rattle.std.specs.Prelude.{ℕ, List, map, Option, Some, None, option_map, unwrap_or}
+use Rattle.std.specs.Prelude.{ℕ, List, map, Option, Some, option_map, unwrap_or}
 use Rattle.ent_types.specs.declared.entity.Entity.{Entity}
 use Rattle.ent_types.specs.declared.type_info.TypeInfo.{TypeInfo}
 use Rattle.ent_types.specs.declared.value.Value.{Value}

@@ -1,6 +1,5 @@
-use Rattle.std.proofs.Common.{Ok, Err, Some, refl, inr, subst}
+use Rattle.std.proofs.Common.{Ok, Err, refl, inr, subst}
 use Rattle.std.proofs.lemmas.Result.{on_ok_weaker}
-use Rattle.structural_ops.specs.declared.fault.OpFault.TheVariants as fault
 use Rattle.playback.specs.Asked.{operation_for}
 use Rattle.playback.specs.Makers.{made_in}
 use Rattle.playback.specs.Played.{Does}
