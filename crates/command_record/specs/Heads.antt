@@ -27,9 +27,9 @@ abbrev pub chain_of : Inside → ChainState
 chain_of c = record { item = c.item; entries = entries_from c.item c.parts.items c.values.items c.heads.items }
 
 -- the span lies within a list of this length
-pub record Fits (span : Span) (length_of : ℕ) : Type 0 where
+pub record Fits (span : Span) (len : ℕ) : Type 0 where
   pub ordered : span.start ≤ span.end
-  pub ends : span.end ≤ length_of
+  pub ends : span.end ≤ len
 
 -- what a head names is there: its part heads, and as many values as they count
 pub record IsThere (part_heads : List PartHead) (all_values : List CmdValue) (h : Head) : Type 0 where

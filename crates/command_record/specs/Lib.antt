@@ -3,4 +3,5 @@ pub mod Entries
 pub mod Changes
 pub mod Kept
 pub mod Heads
+pub mod Lending
 pub mod Turns

@@ -1,6 +1,6 @@
 //! How commands are kept: all values in one list, all parts in another, so that a command takes no memory of its own.
-ghost use Rattle.std.specs.Prelude.{◌≡◌, ◌≤◌, ◌++◌, length, map, sum_by, take, flat_map, OnOk, OnErr, IfOk};
-ghost use Rattle.command_record.specs.Kept.{act_of, part_head_of, part_heads_of, values_of, values_in, parts_from, command_from};
+ghost use Rattle.std.specs.Prelude.{◌≡◌, ◌≤◌, ◌++◌, length, map, take, OnOk, OnErr};
+ghost use Rattle.command_record.specs.Kept.{act_of, part_head_of, part_heads_of, values_of, values_in, count_in, parts_from, command_from};
 
 use crate::command::{CmdPart, CmdValue, Command, Target};
 use crate::lists::{CmdParts, CmdValues};
@@ -160,7 +160,7 @@ pub(crate) fn keep(
 
 /// Returns the parts with these heads, whose values come one after another.
 fn make_parts(alloc: Global, heads: &[PartHead], values: &[CmdValue]) -> Result<CmdParts, Memory>
-    requires { sum_by (λ h. h.count) heads.now ≤ length values.now }
+    requires { count_in heads.now ≤ length values.now }
     ensures { OnOk result (result ≡ Ok (parts_from heads.now values.now)) }
 {
     let mut parts = Vec::with_capacity(alloc, heads.len())?;
@@ -193,7 +193,7 @@ pub(crate) fn make_command(
     heads: &[PartHead],
     values: &[CmdValue],
 ) -> Result<Command, Memory>
-    requires { sum_by (λ h. h.count) heads.now ≤ length values.now }
+    requires { count_in heads.now ≤ length values.now }
     ensures { OnOk result (result ≡ Ok (command_from act heads.now values.now)) }
 {
     Ok(match act {

@@ -1,6 +1,8 @@
 //! The values of a part and the parts of a row, as lists whose values can be replaced in place.
-ghost use Rattle.std.specs.Prelude.{◌≡◌, ◌<◌, [], ◌∷◌, ◌++◌, length, slice_set, OnOk, OnErr};
+ghost use Rattle.std.specs.Prelude.{◌≡◌, ◌<◌, [], ◌∷◌, ◌++◌, length, slice_get, slice_set, Some, OnOk, OnErr};
+ghost use Rattle.std.specs.Borrow.{sem};
 ghost use Rattle.command_record.specs.Changes.{values_at, with_value_in};
+ghost use Rattle.command_record.specs.Lending.{LendsPart};
 
 use crate::command::{CmdPart, CmdValue};
 use ent_types::Memory;
@@ -128,12 +130,21 @@ impl CmdParts {
         Ok(())
     }
 
+    /// Returns the part at a place, from 0, so that its values can be replaced in place.
+    pub fn part_mut(&mut self, at: usize) -> &mut CmdPart
+        requires { at < length self.old }
+        ensures* writes_back { sem 𝓛 (LendsPart self.entry at result) }
+        ensures value { slice_get self.old at ≡ Some result.now }
+    {
+        &mut self.items[at]
+    }
+
     /// Replaces the value at a place of a part, both from 0. It takes no memory.
     pub fn set_value(&mut self, part: usize, at: usize, value: CmdValue)
         requires { at < length (values_at self.old part) }
         ensures { self.new ≡ with_value_in self.old part at value }
     {
-        let own = &mut self.items[part];
+        let own = self.part_mut(part);
         own.values.set(at, value);
     }
 }
