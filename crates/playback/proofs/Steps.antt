@@ -43,10 +43,6 @@ entries_then : (capacity : List ℕ → ℕ) (p : Playing) (xs ys : List Entry) 
 entries_then capacity p [] ys = refl
 entries_then capacity p (x ∷ xs) ys = entries_then capacity (after_entry capacity p x) xs ys
 
-pub played_none : (w : World) → played w [] ≡ not_begun w
-unfolding played
-played_none w = refl
-
 pub played_more : (w : World) (es : List Entry) (i : ℕ) (x : Entry) → i < length es → x ≡ get_or es i x
     → played w (take (i + 1) es) ≡ after_entry (capacity (played w (take i es)).world.registry) (played w (take i es)) x
 unfolding played

@@ -1,6 +1,7 @@
 //! Where entries are kept, so that they can be put in order before one of them is copied.
-ghost use Rattle.std.specs.Prelude.{◌≡◌, ◌∷◌, ◌++◌, length, map, OnOk, IfOk};
+ghost use Rattle.std.specs.Prelude.{◌≡◌, ◌++◌, length, map, min, OnOk, IfOk};
 ghost use Rattle.world_model.specs.Members.{In};
+ghost use Rattle.playback.specs.Order.{all_entries};
 ghost use Rattle.playback.specs.Places.{IsPlaced, TellsShared, all_places, entry_in, places_in, shared_in, shares};
 
 use crate::ArrangeEnd;
@@ -32,11 +33,22 @@ fn add_places(places: &mut Vec<Place>, number: usize, chain: &Chain) -> Result<(
     Ok(())
 }
 
+/// Counts the entries of all chains, up to `usize::MAX`.
+fn count(chains: &[Chain]) -> usize
+    ensures { result ≡ min (length (all_entries chains.now)) usize.MAX }
+{
+    let mut entries = 0usize;
+    for chain in chains {
+        entries = entries.saturating_add(chain.len() as usize);
+    }
+    entries
+}
+
 /// Returns the places of all entries, chain by chain.
 pub(crate) fn places_of(alloc: Global, chains: &[Chain]) -> Result<Vec<Place>, Memory>
     ensures { IfOk result (λ places. places.items ≡ all_places chains.now) }
 {
-    let mut places = Vec::new(alloc);
+    let mut places = Vec::with_capacity(alloc, count(chains))?;
     for (number, chain) in chains.iter().enumerate() {
         add_places(&mut places, number, chain)?;
     }
