@@ -4,3 +4,4 @@ pub mod Changes
 pub mod Kept
 pub mod Heads
 pub mod Lending
+pub mod Turns

@@ -1,9 +1,12 @@
 //! Chains: what one item records for one point, in order.
 ghost use Rattle.std.specs.Prelude.{◌≡◌, ◌≤◌, ◌<◌, [], length, take, slice_get, Some, IfOk, OnOk, OnErr};
+ghost use Rattle.std.specs.Option.{IfSome};
+ghost use Rattle.command_record.specs.Turns.{turn_of};
 ghost use Rattle.command_record.specs.Chains.{AreOwn, with_entry};
 
 use crate::command::{CmdValue, Command};
 use crate::kept::{Act, PartHead, Span, keep, make_act, make_command};
+use crate::turn::Turn;
 use ent_types::Memory;
 use std::alloc::Global;
 use std::marker::Model;
@@ -162,5 +165,24 @@ impl Chain {
             number: head.number,
             command: make_command(alloc, head.act, parts, values)?,
         })
+    }
+
+    /// Returns when the entry at a place, from 0, is played. It takes no memory.
+    pub fn turn(&self, k: u32) -> Turn
+        requires { k < length self.now.entries }
+        ensures { IfSome (slice_get self.now.entries k) (λ e. result ≡ turn_of e) }
+    {
+        let Head {
+            key,
+            row,
+            number,
+            ..
+        } = self.heads[k as usize];
+        Turn {
+            key,
+            item: self.item,
+            row,
+            number,
+        }
     }
 }

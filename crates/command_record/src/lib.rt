@@ -8,7 +8,9 @@ mod chain;
 mod command;
 mod kept;
 mod lists;
+mod turn;
 
 pub use chain::{Chain, Entry, MOST_ENTRIES};
 pub use command::{CmdPart, CmdValue, Command, Target};
 pub use lists::{CmdParts, CmdValues};
+pub use turn::Turn;

@@ -1,0 +1,10 @@
+pub mod OwnRows
+pub mod Apart
+pub mod Turns
+pub mod Placed
+pub mod Arranged
+pub mod Playing
+pub mod Named
+pub mod Neighbours
+pub mod Ends
+pub mod Steps
