@@ -29,3 +29,6 @@ pub mod Unlent
 pub mod Sighted
 pub mod Agreeing
 pub mod References
+pub mod Noting
+pub mod Naming
+pub mod Arrived

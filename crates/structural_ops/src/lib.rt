@@ -4,6 +4,7 @@
 //! skips, block order, and which entity is made next are entsim's own rules.
 #![tactic(auto)]
 
+mod attach;
 mod blocks;
 mod buffers;
 mod elements;
