@@ -23,21 +23,21 @@ use Rattle.system_version.specs.Versions.{version_of}
 use Rattle.world_laws.proofs.Members.{in_append, in_map, in_right, map_append, map_in}
 use Rattle.world_laws.proofs.Moved.{attached_lawful}
 use Rattle.world_laws.proofs.MovedVersions.{attached_turned}
-use Rattle.world_laws.proofs.Renaming.{AreOnce, apart as apart_once, once_less}
+use Rattle.world_laws.proofs.Renaming.{AreOnce, apart as apart_once}
 use Rattle.world_laws.proofs.Same.{entity_self}
 use Rattle.world_laws.proofs.Versions.{placed_turned, room_turned}
 use Rattle.chunk_block.specs.Blocks.{BlockState, new_types}
 use Rattle.archetype_store.specs.Attached.{Each, IsMoved}
 use Rattle.archetype_store.specs.Stores.{Numbered, OfBlock, StoreState, with_block}
 use Rattle.world_places.specs.Placing.{AreAtPlaces, IsPlaced, entity_at, numbers_of, row_at, world_block, world_blocks, world_of}
-use Rattle.world_places.proofs.Looking.{AllLack, none_is, place_at_row, placed_length, there_is, without_place}
+use Rattle.world_places.proofs.Looking.{AllLack, none_is, none_tally, one_has, one_tally, place_at_row, placed_length, there_is, without_place}
 use Rattle.world_places.proofs.Numbers.{block_append, block_none, change_yes, of_in, row_at_in, row_at_some}
 use Rattle.world_places.proofs.Rows.{entity_in}
 use Rattle.world_places.proofs.Tables.{alive_at_place, free_below}
-use Rattle.world_places.proofs.Whereabouts.{number_is, one_at_most}
+use Rattle.world_places.proofs.Whereabouts.{number_is}
 use Rattle.structural_ops.specs.Attaching.{AreNew, all_made, all_named, all_noted, all_written, each_written, place_of_item}
 use Rattle.structural_ops.proofs.Naming.{behind_apart, behind_distinct, block_renamed, given_places, given_there, ids_are, ids_long, ids_made, free_left, first_stays, made_counts, made_more, nothing_renamed, number_there, places_stay, renamed_if, renamed_same, row_renamed, walk_named, who_has_place}
-use Rattle.structural_ops.proofs.Noting.{AreOnceIn, BlocksAlive, Notes, item_entity, noted, noted_is, notes, placed_walked, rows_of_in, same_walk, walked_count, walked_once, walked_place}
+use Rattle.structural_ops.proofs.Noting.{AreOnceIn, BlocksAlive, Notes, item_entity, noted, noted_is, notes, once_later, placed_walked, rows_of_in, same_walk, walked_count, walked_once, walked_place}
 use Rattle.structural_ops.proofs.Numbering.{Keeps, number_at}
 
 -- ---- a lawful world of the code stays one
@@ -163,7 +163,7 @@ cells_same (c ∷ cs) = ap₂ (λ (vs : List Value) (ds : List Cell). record c {
 
 -- A world with the blocks `bs` and the table `u`, and a scene with the blocks `ss` and the table `t`. The blocks `cs` were added for
 -- those of the scene.
-module _ {registry : List TypeInfo} {bs ss cs : List Numbered} {ns : List ℕ} {u t : Table} {archetypes : List (List ℕ)}
+module _ (registry : List TypeInfo) (bs ss cs : List Numbered) (ns : List ℕ) (u t : Table) (archetypes : List (List ℕ))
     (was : IsPlaced registry bs u) (scene : IsPlaced registry ss t) (each : Each (IsMoved archetypes) ss ns cs) (distinct : AreDistinct (numbers_of (bs ++ cs))) where
   apart : (n : ℕ) → In n (numbers_of bs) → In n (numbers_of cs) → ⊥
   apart = behind_apart bs cs distinct
@@ -190,7 +190,11 @@ module _ {registry : List TypeInfo} {bs ss cs : List Numbered} {ns : List ℕ} {
       of_in n (λ b. (e : Entity) → In e (map (λ (r : Row). r.entity) b.block.rows) → IsAlive t e) (bs ++ cs) distinct c (in_right c bs cs j) (sym same) (added_alive c j)
 
   once : AreOnceIn cs
-  once e = subst (λ (xs : List Block). tally (is_of e) (placed xs) ≤ 1) (sym same_blocks) (one_at_most scene e)
+  once e = subst (λ (xs : List Block). tally (is_of e) (placed xs) ≤ 1) (sym same_blocks) (by (place_of t e) refl)
+    where
+      by : (o : Option Place) → place_of t e ≡ o → tally (is_of e) (placed (world_blocks ss)) ≤ 1
+      by None none = omega (arith, none_tally e ss (without_place scene e none))
+      by (Some p) at = one_tally e p.block p.row ss scene.numbers (one_has scene e p at)
 
   abbrev pub there : Table
   there = noted cs t
@@ -387,23 +391,21 @@ module _ {registry : List TypeInfo} {bs ss cs : List Numbered} {ns : List ℕ} {
         (subst (λ d. In (d, x.1) (given_places (map place_of_item xs) (with_made v p)))
         (sym (ap (λ b. unwrap_or (option_map (λ (r : Renaming). r.to) (cond b (Some (record { from = e; to = (given_by v).entity })) (find (λ (r : Renaming). same_entity x.0 r.from) (renamings (map item_entity xs) (ids_made (map place_of_item xs) (with_made v p)))))) x.0)
         (apart_once x.0 e (map item_entity xs) alone (map_in item_entity x xs i))))
-        (given_for xs (with_made v p) x i (once_less e (map item_entity xs) alone)))
+        (given_for xs (with_made v p) x i (once_later e (map item_entity xs) alone)))
 
     -- what is given is what a row of the walk gets
     for_item : (xs : List (Entity × Place)) (v : Table) (d : Entity) (p : Place) → In (d, p) (given_places (map place_of_item xs) v) → AreOnce (map item_entity xs)
         → (x : Entity × Place) × In x xs × (x.1 ≡ p) × (renamed_if (renamings (map item_entity xs) (ids_made (map place_of_item xs) v)) x.0 ≡ d)
     for_item [] v d p i alone = absurd i
-    for_item ((e, q) ∷ xs) v d p (inl same) alone =
-        (
-          (e, q),
-          inl refl,
-          ap place_of_item (sym same),
-          ap (λ b. unwrap_or (option_map (λ (r : Renaming). r.to) (cond b (Some (record { from = e; to = (given_by v).entity })) (find (λ (r : Renaming). same_entity e r.from) (renamings (map item_entity xs) (ids_made (map place_of_item xs) (with_made v q)))))) e) (entity_self e)
-              ∙ ap item_entity (sym same),
-        )
+    for_item ((e, q) ∷ xs) v d p (inl same) alone = (
+      (e, q),
+      inl refl,
+      ap place_of_item (sym same),
+      ap (λ b. unwrap_or (option_map (λ (r : Renaming). r.to) (cond b (Some (record { from = e; to = (given_by v).entity })) (find (λ (r : Renaming). same_entity e r.from) (renamings (map item_entity xs) (ids_made (map place_of_item xs) (with_made v q)))))) e) (entity_self e)
+          ∙ ap item_entity (sym same),
+    )
     for_item ((e, q) ∷ xs) v d p (inr i) alone =
-        let (x, j, place, is) = for_item xs (with_made v q) d p i (once_less e (map item_entity xs) alone) in
-        (
+        let (x, j, place, is) = for_item xs (with_made v q) d p i (once_later e (map item_entity xs) alone) in (
           x,
           inr j,
           place,

@@ -30,5 +30,6 @@ pub mod Sighted
 pub mod Agreeing
 pub mod References
 pub mod Noting
+pub mod Marked
 pub mod Naming
 pub mod Arrived

@@ -17,7 +17,7 @@ use Rattle.world_model.specs.Row.{Row}
 use Rattle.world_model.specs.Scenes.{Renaming, renamed, renamings}
 use Rattle.world_laws.proofs.Leaving.{is_row}
 use Rattle.world_laws.proofs.Members.{map_append}
-use Rattle.world_laws.proofs.Renaming.{AreOnce, apart, once_less}
+use Rattle.world_laws.proofs.Renaming.{AreOnce, apart}
 use Rattle.world_laws.proofs.Same.{entity_is, entity_self}
 use Rattle.chunk_block.specs.Blocks.{BlockState, row_in}
 use Rattle.archetype_store.specs.Stores.{Numbered, StoreState, with_block}
@@ -27,7 +27,7 @@ use Rattle.world_places.proofs.Numbers.{block_append, block_none, later_apart, n
 use Rattle.world_places.proofs.Rows.{Lacks, entity_in}
 use Rattle.world_places.proofs.Tables.{entity_cases, made_count, made_made}
 use Rattle.structural_ops.specs.Attaching.{AreNew, IsNew, all_made, all_named, place_of_item, row_named}
-use Rattle.structural_ops.proofs.Noting.{AreOnceIn, at_counts, first_only, item_entity, later_only, none_lacks, once_block, once_rest}
+use Rattle.structural_ops.proofs.Noting.{AreOnceIn, at_counts, first_only, item_entity, later_only, none_lacks, once_block, once_later, once_rest}
 
 -- ---- the ids
 
@@ -304,7 +304,7 @@ module _ (s : StoreState) (bs cs : List Numbered) (distinct : AreDistinct (numbe
   walk_named ((e, p) ∷ xs) t rs at alone kept =
       let d = (given_by t).entity in
       ap (λ (zs : List Numbered). all_named (map place_of_item xs) (with_made t p) (record s { blocks = zs })) (one_named rs e d p (kept e (inl refl)) (at (e, p) (inl refl)))
-      ∙ walk_named xs (with_made t p) (more rs e d) (λ x i. at x (inr i)) (once_less e (map item_entity xs) alone)
+      ∙ walk_named xs (with_made t p) (more rs e d) (λ x i. at x (inr i)) (once_later e (map item_entity xs) alone)
       (λ c i. kept_more rs e d c (kept c (inr i)) (apart c e (map item_entity xs) alone i))
       ∙ ap with_renamed (append_assoc rs ((record { from = e; to = d }) ∷ []) (renamings (map item_entity xs) (ids_made (map place_of_item xs) (with_made t p))))
 

@@ -16,10 +16,12 @@ use Rattle.world_laws.proofs.Leaving.{is_row}
 use Rattle.world_laws.proofs.Members.{tally_append}
 use Rattle.world_laws.proofs.Renaming.{AreOnce}
 use Rattle.world_laws.proofs.Same.{entity_is, entity_self}
-use Rattle.archetype_store.specs.Stores.{Numbered}
+use Rattle.std.specs.Bool.{MatchBool}
+use Rattle.chunk_block.specs.Blocks.{BlockState}
+use Rattle.archetype_store.specs.Stores.{Numbered, OfBlock}
 use Rattle.world_places.specs.Placing.{entity_at, home_of, numbers_of, row_at, world_blocks}
 use Rattle.world_places.proofs.Looking.{AllLack, place_is}
-use Rattle.world_places.proofs.Numbers.{later_apart}
+use Rattle.world_places.proofs.Numbers.{later_apart, of_both, of_member, of_more}
 use Rattle.world_places.proofs.Rows.{Lacks, entity_in, tally_rows}
 use Rattle.world_places.proofs.Tables.{entity_cases, place_rebinds}
 use Rattle.structural_ops.specs.Attaching.{all_noted, rows_noted, rows_of}
@@ -171,30 +173,29 @@ later_only e b bs n k few is = none_lacks e b.block.rows (omega (arith, block_ta
 
 pub notes : (bs : List Numbered) (t : Table) → BlocksAlive bs t → AreDistinct (numbers_of bs) → AreOnceIn bs → Notes bs t (noted bs t)
 notes [] t alive distinct once = record { there = λ e p is. absurd (none-some e is); others = λ e lacks. refl; versions = refl }
-notes (b ∷ bs) t alive distinct once = record {
-  there = λ e p is. by e p (nat_eq b.number p.block) refl is;
-  others = λ e lacks. rest.others e (λ c i. lacks c (inr i)) ∙ rows_others b.number 0 b.block.rows t (alive b (inl refl)) e (lacks b (inl refl));
-  versions = rest.versions ∙ rows_versions b.number 0 b.block.rows t (alive b (inl refl));
-}
+notes (b ∷ bs) t alive distinct once =
+    step
+    (notes bs (rows_noted b.number 0 b.block.rows t) (λ c i e j. rows_alive b.number 0 b.block.rows t (alive b (inl refl)) e (alive c (inr i) e j)) distinct.1
+    (once_rest b bs once))
   where
-    after : Table
-    after = rows_noted b.number 0 b.block.rows t
-
-    rest : Notes bs (rows_noted b.number 0 b.block.rows t) (noted bs (rows_noted b.number 0 b.block.rows t))
-    rest =
-        notes bs (rows_noted b.number 0 b.block.rows t) (λ c i e j. rows_alive b.number 0 b.block.rows t (alive b (inl refl)) e (alive c (inr i) e j)) distinct.1
-        (once_rest b bs once)
-
     no_more : (k : ℕ) → 0 + k ≡ k
     no_more k = omega arith
 
-    by : (e : Entity) (p : Place) (c : Bool) → nat_eq b.number p.block ≡ c → option_map (λ (r : Row). r.entity) (cond c (slice_get b.block.rows p.row) (row_at bs p.block p.row)) ≡ Some e
-        → place_of (noted bs (rows_noted b.number 0 b.block.rows t)) e ≡ Some p
-    by e p true same is =
-        rest.others e (first_only e b bs p.row (once e) is)
-        ∙ rows_there b.number 0 b.block.rows t (alive b (inl refl)) e p.row is (once_block e b bs (once e))
-        ∙ ap Some (sym (place_is p b.number (0 + p.row) (sym (eqb-true b.number p.block same)) (sym (no_more p.row))))
-    by e p false other is = rest.there e p is
+    step : Notes bs (rows_noted b.number 0 b.block.rows t) (noted bs (rows_noted b.number 0 b.block.rows t)) → Notes (b ∷ bs) t (noted bs (rows_noted b.number 0 b.block.rows t))
+    step rest = record {
+      there = λ e p is. by e p (nat_eq b.number p.block) refl is;
+      others = λ e lacks. rest.others e (λ c i. lacks c (inr i)) ∙ rows_others b.number 0 b.block.rows t (alive b (inl refl)) e (lacks b (inl refl));
+      versions = rest.versions ∙ rows_versions b.number 0 b.block.rows t (alive b (inl refl));
+    }
+      where
+        by : (e : Entity) (p : Place) (c : Bool) → nat_eq b.number p.block ≡ c
+            → option_map (λ (r : Row). r.entity) (cond c (slice_get b.block.rows p.row) (row_at bs p.block p.row)) ≡ Some e
+            → place_of (noted bs (rows_noted b.number 0 b.block.rows t)) e ≡ Some p
+        by e p true same is =
+            rest.others e (first_only e b bs p.row (once e) is)
+            ∙ rows_there b.number 0 b.block.rows t (alive b (inl refl)) e p.row is (once_block e b bs (once e))
+            ∙ ap Some (sym (place_is p b.number (0 + p.row) (sym (eqb-true b.number p.block same)) (sym (no_more p.row))))
+        by e p false other is = rest.there e p is
 
 -- ---- the walk over the alive entities
 
@@ -224,13 +225,12 @@ walk_places index (None ∷ os) x i = let (k, at, is) = walk_places (index + 1) 
   where
     one_more : (k : ℕ) → x.0.index ≡ (index + 1) + k → x.0.index ≡ index + suc k
     one_more k at = omega arith
-walk_places index (Some h ∷ os) x (inl same) =
-    (
-      0,
-      ap (λ (y : Entity × Place). y.0.index) same ∙ plus_none index,
-      ap (λ (y : Entity × Place). place_at y.0.version (Some h)) same
-          ∙ (ap (λ t. cond t (Some h.place) None) (eq-eqb h.version h.version refl) ∙ ap (λ (y : Entity × Place). Some y.1) (sym same)),
-    )
+walk_places index (Some h ∷ os) x (inl same) = (
+  0,
+  ap (λ (y : Entity × Place). y.0.index) same ∙ plus_none index,
+  ap (λ (y : Entity × Place). place_at y.0.version (Some h)) same
+      ∙ (ap (λ t. cond t (Some h.place) None) (eq-eqb h.version h.version refl) ∙ ap (λ (y : Entity × Place). Some y.1) (sym same)),
+)
   where
     plus_none : (k : ℕ) → k ≡ k + 0
     plus_none k = omega arith
@@ -252,12 +252,15 @@ place_walked index (None ∷ os) e p zero at is = absurd (none-some p is)
 place_walked index (None ∷ os) e p (suc k) at is = place_walked (index + 1) os e p k (omega (arith, at)) is
 place_walked index (Some h ∷ os) e p zero at is = inl (held (alive_at e.version (Some h) (ap is_some is)))
   where
-    held : ((q : Place) × (Some h ≡ Some (record { version = e.version; place = q }))) → (e, p) ≡ (record { index = index; version = h.version }, h.place)
+    item : Entity → Place → Entity × Place
+    item d o = (d, o)
+
+    held : ((q : Place) × (Some h ≡ Some (record { version = e.version; place = q }))) → item e p ≡ item (record { index = index; version = h.version }) h.place
     held (q, same) =
         let version : h.version ≡ e.version = ap (λ (g : Holder). g.version) (same_Some h (record { version = e.version; place = q }) same) in
         let place : h.place ≡ p = same_Some h.place p (ap (λ t. cond t (Some h.place) None) (sym (eq-eqb h.version e.version version)) ∙ is) in
         let index_is : e.index ≡ index = omega (arith, at) in
-        ap₂ (λ (d : Entity) (o : Place). (d, o)) (ap₂ (λ (i v : ℕ). let d : Entity = record { index = i; version = v } in d) index_is (sym version)) (sym place)
+        ap₂ item (ap₂ (λ (i v : ℕ). let d : Entity = record { index = i; version = v } in d) index_is (sym version)) (sym place)
 place_walked index (Some h ∷ os) e p (suc k) at is = inr (place_walked (index + 1) os e p k (omega (arith, at)) is)
 
 pub placed_walked : (t : Table) (e : Entity) (p : Place) → place_of t e ≡ Some p → In (e, p) (living t)
@@ -266,7 +269,7 @@ placed_walked t e p is = place_walked 0 t.holders e p e.index (omega arith) is
 -- as many entities as are alive
 walk_long : (index : ℕ) (os : List (Option Holder)) → length (living_from index os) ≡ count_by is_some os
 walk_long index [] = refl
-walk_long index (None ∷ os) = walk_long (index + 1) os ∙ sym (sum_by-cons (λ (o : Option Holder). cond (is_some o) 1 0) None os)
+walk_long index (None ∷ os) = omega (arith, walk_long (index + 1) os, sum_by-cons (λ (o : Option Holder). cond (is_some o) 1 0) None os)
 walk_long index (Some h ∷ os) = omega (arith, walk_long (index + 1) os, sum_by-cons (λ (o : Option Holder). cond (is_some o) 1 0) (Some h) os)
 
 pub walked_count : (t : Table) → length (living t) ≡ alive_count t
@@ -295,5 +298,31 @@ walk_once index (Some v ∷ vs) e = by (same_entity e (record { index = index; v
         omega arith
     by false is few = omega arith
 
+-- a shorter list of entities that are there once
+pub once_later : (e : Entity) (es : List Entity) → AreOnce (e ∷ es) → AreOnce es
+once_later e es once d = let o = once d in omega arith
+
 pub walked_once : (t : Table) → AreOnce (map item_entity (living t))
 walked_once t = subst AreOnce (sym (walk_is 0 t.holders)) (walk_once 0 (alive_versions t))
+
+-- ---- of a block that was got by its number
+
+pub rows_got : (n : ℕ) (x : BlockState) (bs : List Numbered) → OfBlock n (λ b. x ≡ b) bs → rows_of n bs ≡ x.rows
+rows_got n x [] of = absurd of
+rows_got n x (b ∷ bs) of = by (nat_eq b.number n) of (rows_got n x bs)
+  where
+    by : (t : Bool) → MatchBool t (x ≡ b.block) (OfBlock n (λ c. x ≡ c) bs) → (OfBlock n (λ c. x ≡ c) bs → rows_of n bs ≡ x.rows) → cond t b.block.rows (rows_of n bs) ≡ x.rows
+    by true same rest = ap (λ (c : BlockState). c.rows) (sym same)
+    by false later rest = rest later
+
+pub rows_got_alive : (n : ℕ) (x : BlockState) (t : Table) (bs : List Numbered) → OfBlock n (λ b. x ≡ b) bs → OfBlock n (λ b. AllAlive b.rows t) bs → AllAlive x.rows t
+rows_got_alive n x t bs of alive =
+    let (b, i, number, all) =
+    of_member n (λ _. AllAlive x.rows t) bs
+    (of_both n (λ b. x ≡ b.block) (λ b. AllAlive b.block.rows t) (λ _. AllAlive x.rows t) bs (λ b same holds. subst (λ (c : BlockState). AllAlive c.rows t) (sym same) holds) of alive) in
+    all
+
+-- rows of another block stay alive
+pub others_alive : (n : ℕ) (rows : List Row) (t : Table) → AllAlive rows t → (m : ℕ) (bs : List Numbered) → OfBlock m (λ b. AllAlive b.rows t) bs → OfBlock m (λ b. AllAlive b.rows (rows_noted n 0 rows t)) bs
+others_alive n rows t all m bs of =
+    of_more m (λ b. AllAlive b.block.rows t) (λ b. AllAlive b.block.rows (rows_noted n 0 rows t)) bs (λ b alive e i. rows_alive n 0 rows t all e (alive e i)) of

@@ -1,6 +1,7 @@
 use Rattle.std.proofs.Common.{◌≡◌, ◌∙◌, ◌++◌, ◌∷◌, [], ap, sym, List}
 use Rattle.ent_types.specs.declared.entity.Entity.{Entity}
 use Rattle.entity_table.specs.Table.{Table, made}
+use Rattle.world_model.specs.Ids.{next_ids}
 use Rattle.structural_ops.proofs.Naming.{next_more}
 use Rattle.structural_ops.proofs.attach.ids_ahead.Goals as goal
 
