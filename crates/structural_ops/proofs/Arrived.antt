@@ -161,48 +161,53 @@ cells_same (c ∷ cs) = ap₂ (λ (vs : List Value) (ds : List Cell). record c {
     values_same [] = refl
     values_same (v ∷ vs) = ap (λ (us : List Value). v ∷ us) (values_same vs)
 
--- A world with the blocks `bs` and the table `u`, and a scene with the blocks `ss` and the table `t`. The blocks `cs` were added for
--- those of the scene.
-module _ (registry : List TypeInfo) (bs ss cs : List Numbered) (ns : List ℕ) (u t : Table) (archetypes : List (List ℕ))
-    (was : IsPlaced registry bs u) (scene : IsPlaced registry ss t) (each : Each (IsMoved archetypes) ss ns cs) (distinct : AreDistinct (numbers_of (bs ++ cs))) where
+-- A world with the blocks `bs` and the table `u`, and a scene with the blocks `ss` and the table `t`. The blocks `cs` with the
+-- numbers `ns` were added for those of the scene.
+pub record Arrives (registry : List TypeInfo) (bs ss cs : List Numbered) (ns : List ℕ) (u t : Table) (archetypes : List (List ℕ)) : Type 0 where
+  pub was : IsPlaced registry bs u
+  pub scene : IsPlaced registry ss t
+  pub each : Each (IsMoved archetypes) ss ns cs
+  pub distinct : AreDistinct (numbers_of (bs ++ cs))
+
+module _ {registry : List TypeInfo} {bs ss cs : List Numbered} {ns : List ℕ} {u t : Table} {archetypes : List (List ℕ)} (a : Arrives registry bs ss cs ns u t archetypes) where
   apart : (n : ℕ) → In n (numbers_of bs) → In n (numbers_of cs) → ⊥
-  apart = behind_apart bs cs distinct
+  apart = behind_apart bs cs a.distinct
 
   added_distinct : AreDistinct (numbers_of cs)
-  added_distinct = behind_distinct bs cs distinct
+  added_distinct = behind_distinct bs cs a.distinct
 
   same_blocks : world_blocks cs ≡ world_blocks ss
-  same_blocks = moved_blocks archetypes ss ns cs each
+  same_blocks = moved_blocks archetypes ss ns cs a.each
 
   -- ---- the table of the scene, with the new places
 
   pub added_alive : BlocksAlive cs t
   added_alive c i e j =
-      let (b, k, same) = came_from archetypes ss ns cs each c i in
+      let (b, k, same) = came_from archetypes ss ns cs a.each c i in
       let (at, is) = at_place c.block.rows e j in
       alive_at_place t e (record { block = b.number; row = at })
-      (place_at_row scene b k at e (ap (λ (x : BlockState). entity_in x.rows at) (sym same) ∙ is))
+      (place_at_row a.scene b k at e (ap (λ (x : BlockState). entity_in x.rows at) (sym same) ∙ is))
 
   -- what `note_blocks` asks
   pub can_note : (n : ℕ) → In n ns → OfBlock n (λ b. (e : Entity) → In e (map (λ (r : Row). r.entity) b.rows) → IsAlive t e) (bs ++ cs)
   can_note n i =
-      let (c, j, same) = in_map (λ (b : Numbered). b.number) n cs (subst (In n) (sym (moved_numbers archetypes ss ns cs each)) i) in
-      of_in n (λ b. (e : Entity) → In e (map (λ (r : Row). r.entity) b.block.rows) → IsAlive t e) (bs ++ cs) distinct c (in_right c bs cs j) (sym same) (added_alive c j)
+      let (c, j, same) = in_map (λ (b : Numbered). b.number) n cs (subst (In n) (sym (moved_numbers archetypes ss ns cs a.each)) i) in
+      of_in n (λ b. (e : Entity) → In e (map (λ (r : Row). r.entity) b.block.rows) → IsAlive t e) (bs ++ cs) a.distinct c (in_right c bs cs j) (sym same) (added_alive c j)
 
   once : AreOnceIn cs
   once e = subst (λ (xs : List Block). tally (is_of e) (placed xs) ≤ 1) (sym same_blocks) (by (place_of t e) refl)
     where
       by : (o : Option Place) → place_of t e ≡ o → tally (is_of e) (placed (world_blocks ss)) ≤ 1
-      by None none = omega (arith, none_tally e ss (without_place scene e none))
-      by (Some p) at = one_tally e p.block p.row ss scene.numbers (one_has scene e p at)
+      by None none = omega (arith, none_tally e ss (without_place a.scene e none))
+      by (Some p) at = one_tally e p.block p.row ss a.scene.numbers (one_has a.scene e p at)
 
   abbrev pub there : Table
   there = noted cs t
 
   pub noted_there : all_noted (bs ++ cs) ns t ≡ there
   noted_there =
-      ap (λ ms. all_noted (bs ++ cs) ms t) (sym (moved_numbers archetypes ss ns cs each))
-      ∙ noted_is (bs ++ cs) cs t (λ c i. rows_of_in (bs ++ cs) distinct c (in_right c bs cs i))
+      ap (λ ms. all_noted (bs ++ cs) ms t) (sym (moved_numbers archetypes ss ns cs a.each))
+      ∙ noted_is (bs ++ cs) cs t (λ c i. rows_of_in (bs ++ cs) a.distinct c (in_right c bs cs i))
 
   noting : Notes cs t there
   noting = notes cs t added_alive added_distinct once
@@ -215,11 +220,11 @@ module _ (registry : List TypeInfo) (bs ss cs : List Numbered) (ns : List ℕ) (
         where
           by : (o : Option Place) → place_of t e ≡ o → entity_at cs p.block p.row ≡ Some e
           by None none =
-              let lack : AllLack e cs = λ c i k is. (let (b, j, same) = came_from archetypes ss ns cs each c i in without_place scene e none b j k (ap (λ (x : BlockState). entity_in x.rows k) (sym same) ∙ is)) in
+              let lack : AllLack e cs = λ c i k is. (let (b, j, same) = came_from archetypes ss ns cs a.each c i in without_place a.scene e none b j k (ap (λ (x : BlockState). entity_in x.rows k) (sym same) ∙ is)) in
               absurd (none-some p (sym (noting.others e lack ∙ none) ∙ at))
           by (Some q) was_at =
-              let was_there = there_is scene e q was_at in
-              let (c, j, same) = was_added archetypes ss ns cs each was_there.block was_there.member in
+              let was_there = there_is a.scene e q was_at in
+              let (c, j, same) = was_added archetypes ss ns cs a.each was_there.block was_there.member in
               let here : entity_at cs c.number q.row ≡ Some e =
               ap (option_map (λ (r : Row). r.entity)) (row_at_in cs added_distinct c j c.number q.row refl ∙ ap (λ (x : BlockState). slice_get x.rows q.row) same ∙ was_there.at)
               ∙ ap Some was_there.entity in
@@ -245,10 +250,8 @@ module _ (registry : List TypeInfo) (bs ss cs : List Numbered) (ns : List ℕ) (
 
   pub places_long : length places ≡ table_alive t
   places_long =
-      let a = length-map items place_of_item in
-      let b = length-map items item_entity in
-      let c = length-map (living t) item_entity in
-      omega (arith, a, b, c, ap length walk_is_scene, walked_count t)
+      omega
+      (arith, length-map items place_of_item, length-map items item_entity, length-map (living t) item_entity, ap length walk_is_scene, walked_count t)
 
   -- what `name_rows` asks
   pub can_name : (p : Place) → In p places → OfBlock p.block (λ b. p.row < length b.rows) (bs ++ cs)
@@ -260,7 +263,7 @@ module _ (registry : List TypeInfo) (bs ss cs : List Numbered) (ns : List ℕ) (
       by {e} None at is = absurd (none-some e is)
       by (Some r) at is =
           let (c, j, number, got) = row_at_some cs p.block p.row r at in
-          of_in p.block (λ b. p.row < length b.block.rows) (bs ++ cs) distinct c (in_right c bs cs j) number (slice_get_within c.block.rows p.row r got)
+          of_in p.block (λ b. p.row < length b.block.rows) (bs ++ cs) a.distinct c (in_right c bs cs j) number (slice_get_within c.block.rows p.row r got)
 
   -- ---- the names
 
@@ -275,9 +278,7 @@ module _ (registry : List TypeInfo) (bs ss cs : List Numbered) (ns : List ℕ) (
 
   names_long : length entities ≡ length ids
   names_long =
-      let a = length-map items place_of_item in
-      let b = length-map items item_entity in
-      omega (arith, a, b, ids_long places u)
+      omega (arith, length-map items place_of_item, length-map items item_entity, ids_long places u)
 
   unnamed : (xs : List Numbered) → map (block_renamed []) xs ≡ xs
   unnamed [] = refl
@@ -286,7 +287,7 @@ module _ (registry : List TypeInfo) (bs ss cs : List Numbered) (ns : List ℕ) (
   pub rows_are_named : (s : StoreState) → s.blocks ≡ bs ++ cs → all_named places u s ≡ record s { blocks = bs ++ named }
   rows_are_named s is =
       ap (λ (xs : List Numbered). all_named places u (record s { blocks = xs })) (is ∙ ap (λ (xs : List Numbered). bs ++ xs) (sym (unnamed cs)))
-      ∙ walk_named s bs cs distinct once items u [] item_there (walked_once there) (λ e i. refl)
+      ∙ walk_named s bs cs a.distinct once items u [] item_there (walked_once there) (λ e i. refl)
 
   named_numbers : numbers_of named ≡ numbers_of cs
   named_numbers = same cs
@@ -299,15 +300,15 @@ module _ (registry : List TypeInfo) (bs ss cs : List Numbered) (ns : List ℕ) (
   all_numbers = numbers_append bs named ∙ ap (λ ms. numbers_of bs ++ ms) named_numbers ∙ sym (numbers_append bs cs)
 
   named_distinct : AreDistinct (numbers_of (bs ++ named))
-  named_distinct = subst AreDistinct (sym all_numbers) distinct
+  named_distinct = subst AreDistinct (sym all_numbers) a.distinct
 
   -- ---- the marks
 
   -- what `mark_blocks` asks
   pub can_mark : ((b : Numbered) → In b ss → map mark_type b.block.marks ≡ b.block.types) → (n : ℕ) → In n ns → OfBlock n (λ b. map mark_type b.marks ≡ b.types) (bs ++ named)
   can_mark marked n i =
-      let (c, j, same) = in_map (λ (b : Numbered). b.number) n cs (subst (In n) (sym (moved_numbers archetypes ss ns cs each)) i) in
-      let (b, k, block) = came_from archetypes ss ns cs each c j in
+      let (c, j, same) = in_map (λ (b : Numbered). b.number) n cs (subst (In n) (sym (moved_numbers archetypes ss ns cs a.each)) i) in
+      let (b, k, block) = came_from archetypes ss ns cs a.each c j in
       of_in n (λ b. map mark_type b.block.marks ≡ b.block.types) (bs ++ named) named_distinct (block_renamed names c) (in_right (block_renamed names c) bs named (map_in (block_renamed names) c cs j)) (sym same)
       (subst (λ (x : BlockState). map mark_type x.marks ≡ x.types) (sym block) (marked b k))
 
@@ -316,7 +317,7 @@ module _ (registry : List TypeInfo) (bs ss cs : List Numbered) (ns : List ℕ) (
 
   pub blocks_are_marked : (now : ℕ) (s : StoreState) → s.blocks ≡ bs ++ named → each_written now ns s ≡ record s { blocks = bs ++ arrived now }
   blocks_are_marked now s is =
-      ap₂ (λ (ms : List ℕ) (xs : List Numbered). each_written now ms (record s { blocks = xs })) (sym (named_numbers ∙ moved_numbers archetypes ss ns cs each)) is
+      ap₂ (λ (ms : List ℕ) (xs : List Numbered). each_written now ms (record s { blocks = xs })) (sym (named_numbers ∙ moved_numbers archetypes ss ns cs a.each)) is
       ∙ written_each now s bs named named_distinct
 
   -- ---- rows by their places
@@ -344,7 +345,7 @@ module _ (registry : List TypeInfo) (bs ss cs : List Numbered) (ns : List ℕ) (
     blocks = bs ++ arrived now
 
     blocks_distinct : AreDistinct (numbers_of blocks)
-    blocks_distinct = subst AreDistinct (sym (numbers_append bs (arrived now) ∙ ap (λ ms. numbers_of bs ++ ms) arrived_numbers ∙ sym (numbers_append bs cs))) distinct
+    blocks_distinct = subst AreDistinct (sym (numbers_append bs (arrived now) ∙ ap (λ ms. numbers_of bs ++ ms) arrived_numbers ∙ sym (numbers_append bs cs))) a.distinct
 
     -- rows of blocks one after another
     behind_at : (xs ys : List Numbered) (n k : ℕ) → (In n (numbers_of xs) → ⊥) → row_at (xs ++ ys) n k ≡ row_at ys n k
@@ -422,7 +423,7 @@ module _ (registry : List TypeInfo) (bs ss cs : List Numbered) (ns : List ℕ) (
       arrived_there e p at = by (who_has_place places u new e p at)
         where
           by : (place_of u e ≡ Some p) ⊎ In (e, p) (given_places places u) → entity_at blocks p.block p.row ≡ Some e
-          by (inl old) = let here = was.places.there e p old in old_at p.block p.row (number_there bs p.block p.row e here) ∙ here
+          by (inl old) = let here = a.was.places.there e p old in old_at p.block p.row (number_there bs p.block p.row e here) ∙ here
           by (inr i) =
               let (x, j, place, is) = for_item items u e p i (walked_once there) in
               let here : entity_at cs p.block p.row ≡ Some x.0 = subst (λ (q : Place). entity_at cs q.block q.row ≡ Some x.0) place (item_there x j) in
@@ -438,16 +439,19 @@ module _ (registry : List TypeInfo) (bs ss cs : List Numbered) (ns : List ℕ) (
               given_there places u new e p (subst (λ c. In (c, p) (given_places places u)) (same_Some (renamed_if names d) e got) (given_for items u (d, p) i (walked_once there)))
 
           by : In p.block (numbers_of bs) ⊎ (In p.block (numbers_of bs) → ⊥) → place_of table e ≡ Some p
-          by (inl i) = places_stay places u new e p (was.places.found e p (sym (old_at p.block p.row i) ∙ is))
+          by (inl i) = places_stay places u new e p (a.was.places.found e p (sym (old_at p.block p.row i) ∙ is))
           by (inr none) = named_by (entity_at cs p.block p.row) refl (sym (new_at p.block p.row none) ∙ is)
 
       rows_long : (xs : List Numbered) → length (placed (world_blocks (map (block_written now) (map (block_renamed names) xs)))) ≡ length (placed (world_blocks xs))
       rows_long [] = refl
       rows_long (x ∷ xs) =
-          let a = placed_length (block_written now (block_renamed names x)) (map (block_written now) (map (block_renamed names) xs)) in
-          let b = placed_length x xs in
-          let c = length-map x.block.rows (row_renamed names) in
-          omega (arith, a, b, c, rows_long xs)
+          omega (
+            arith,
+            placed_length (block_written now (block_renamed names x)) (map (block_written now) (map (block_renamed names) xs)),
+            placed_length x xs,
+            length-map x.block.rows (row_renamed names),
+            rows_long xs,
+          )
 
       placed_long : (xs ys : List Numbered) → length (placed (world_blocks (xs ++ ys))) ≡ length (placed (world_blocks xs)) + length (placed (world_blocks ys))
       placed_long [] ys = omega arith
@@ -466,14 +470,14 @@ module _ (registry : List TypeInfo) (bs ss cs : List Numbered) (ns : List ℕ) (
       pub arrived_placed : IsPlaced registry blocks table
       arrived_placed = record {
         numbers = blocks_distinct;
-        filled = each_block (λ b. 1 ≤ length b.block.rows) was.filled
-            (λ c i. let (b, j, same) = came_from archetypes ss ns cs each c i in omega (arith, length-map c.block.rows (row_renamed names), scene.filled b j, ap (λ (x : BlockState). length x.rows) same));
-        whole = each_block (λ b. b.block.columns ≡ new_types registry b.block.types) was.whole
-            (λ c i. let (b, j, same) = came_from archetypes ss ns cs each c i in
-            ap (λ (x : BlockState). x.columns) same ∙ scene.whole b j ∙ ap (λ (x : BlockState). new_types registry x.types) (sym same));
+        filled = each_block (λ b. 1 ≤ length b.block.rows) a.was.filled
+            (λ c i. let (b, j, same) = came_from archetypes ss ns cs a.each c i in omega (arith, length-map c.block.rows (row_renamed names), a.scene.filled b j, ap (λ (x : BlockState). length x.rows) same));
+        whole = each_block (λ b. b.block.columns ≡ new_types registry b.block.types) a.was.whole
+            (λ c i. let (b, j, same) = came_from archetypes ss ns cs a.each c i in
+            ap (λ (x : BlockState). x.columns) same ∙ a.scene.whole b j ∙ ap (λ (x : BlockState). new_types registry x.types) (sym same));
         places = record { there = arrived_there; found = arrived_found };
         counted =
-            omega (arith, made_counts places u new, places_long, was.counted, scene.counted, placed_long bs (arrived now), rows_long cs, ap (λ (xs : List Block). length (placed xs)) same_blocks);
+            omega (arith, made_counts places u new, places_long, a.was.counted, a.scene.counted, placed_long bs (arrived now), rows_long cs, ap (λ (xs : List Block). length (placed xs)) same_blocks);
       }
 
       -- ---- numbers
@@ -486,17 +490,17 @@ module _ (registry : List TypeInfo) (bs ss cs : List Numbered) (ns : List ℕ) (
 
           by : (o : Option Place) → place_of u e ≡ o → (q : Option Place) → place_of table e ≡ q → number_at blocks e ≡ number_at bs e
           by (Some p) old q at =
-              number_is arrived_placed e ∙ ap (option_map (λ (x : Place). x.block)) (places_stay places u new e p old ∙ sym old) ∙ sym (number_is was e)
-          by None old None at = number_is arrived_placed e ∙ ap (option_map (λ (x : Place). x.block)) (at ∙ sym old) ∙ sym (number_is was e)
+              number_is arrived_placed e ∙ ap (option_map (λ (x : Place). x.block)) (places_stay places u new e p old ∙ sym old) ∙ sym (number_is a.was e)
+          by None old None at = number_is arrived_placed e ∙ ap (option_map (λ (x : Place). x.block)) (at ∙ sym old) ∙ sym (number_is a.was e)
           by None old (Some q) at =
               let here = there_is arrived_placed e q at in
-              absurd (none-some _ (sym (stays ∙ homeless (found e (world_blocks bs)) (none_is was e old)) ∙ ap (option_map (λ (x : Found). x.home)) here.is_found))
+              absurd (none-some _ (sym (stays ∙ homeless (found e (world_blocks bs)) (none_is a.was e old)) ∙ ap (option_map (λ (x : Found). x.home)) here.is_found))
 
       -- ---- the world
 
       module _ (sound : IsSound (world_of registry bs u now)) (w : World) (scene_is : world_blocks ss ≡ w.blocks) (walked : map item_entity (living t) ≡ entities_by_index w) where
         count_is : length places ≡ alive_count w
-        count_is = omega (arith, places_long, scene.counted, ap (λ (xs : List Block). length (placed xs)) scene_is)
+        count_is = omega (arith, places_long, a.scene.counted, ap (λ (xs : List Block). length (placed xs)) scene_is)
 
         made_below : (d : Entity) → In d u.free → d.index < made u
         made_below = free_below (world_of registry bs u now) sound

@@ -24,9 +24,9 @@ use Rattle.world_rows.proofs.CodeLawful.{code_alive, code_sound}
 use Rattle.structural_ops.specs.Attaching.{AreNew, all_made, all_named, all_noted, each_written, place_of_item}
 use Rattle.structural_ops.specs.Worlds.{Becomes, IsConsistent, KeepsNumbers, Stays, state_of}
 use Rattle.structural_ops.specs.declared.tables.Tables.{Tables}
-use Rattle.structural_ops.proofs.Arrived.{arrived, arrived_keeps, arrived_placed, arrived_world, attached_lawful_code, blocks_are_marked, can_mark, can_name, can_note, named, noted_there, places, places_long, rows_are_named, there}
+use Rattle.structural_ops.proofs.Arrived.{Arrives, arrived, arrived_keeps, arrived_placed, arrived_world, attached_lawful_code, blocks_are_marked, can_mark, can_name, can_note, named, noted_there, places, places_long, rows_are_named, there}
 use Rattle.structural_ops.proofs.Looked.{block_whole}
-use Rattle.structural_ops.proofs.Noting.{item_entity}
+use Rattle.structural_ops.proofs.Noting.{AllAlive}
 use Rattle.structural_ops.proofs.Walked.{entities_walked}
 
 -- ---- memory for the new entities
@@ -95,104 +95,102 @@ module _ (w scene : Tables) (was : IsConsistent w) (is : IsConsistent scene) (sa
       lawful = subst (IsLawfulCode (capacity w.registry)) (sym world_same) was.lawful;
     }
 
-  -- ---- the blocks were appended
+-- ---- the blocks were appended
 
-  module _ (mid : StoreState) (ns : List ℕ) (attaches : Attaches w.store mid scene.store ns) where
-    abbrev pub bs : List Numbered
-    bs = w.store.blocks
+-- what the store's `attach` left, of a world and a scene
+pub record IsAppended (w scene : Tables) (mid : StoreState) (ns : List ℕ) : Type 0 where
+  pub was : IsConsistent w
+  pub is : IsConsistent scene
+  pub same : scene.registry ≡ w.registry
+  pub attaches : Attaches w.store mid scene.store ns
 
-    abbrev pub cs : List Numbered
-    cs = attaches.blocks.added
+module _ {w scene : Tables} {mid : StoreState} {ns : List ℕ} (a : IsAppended w scene mid ns) where
+  abbrev pub cs : List Numbered
+  cs = a.attaches.blocks.added
 
-    abbrev pub u : Table
-    u = w.table.table
+  pub distinct : AreDistinct (numbers_of (w.store.blocks ++ cs))
+  distinct = subst (λ (xs : List Numbered). AreDistinct (numbers_of xs)) a.attaches.blocks.blocks a.attaches.distinct
 
-    abbrev pub t : Table
-    t = scene.table.table
+  pub theirs_placed : IsPlaced w.registry scene.store.blocks scene.table.table
+  theirs_placed = subst (λ (q : List TypeInfo). IsPlaced q scene.store.blocks scene.table.table) a.same a.is.agrees.placed
 
-    pub each : Each (IsMoved mid.archetypes) scene.store.blocks ns cs
-    each = attaches.blocks.each
+  pub arrives : Arrives w.registry w.store.blocks scene.store.blocks cs ns w.table.table scene.table.table mid.archetypes
+  arrives = record { was = a.was.agrees.placed; scene = theirs_placed; each = a.attaches.blocks.each; distinct = distinct }
 
-    pub distinct : AreDistinct (numbers_of (bs ++ cs))
-    distinct = subst (λ (xs : List Numbered). AreDistinct (numbers_of xs)) attaches.blocks.blocks attaches.distinct
+  pub may_note : (ms : List ℕ) → ms ≡ ns → (n : ℕ) → In n ms → OfBlock n (λ b. AllAlive b.rows scene.table.table) mid.blocks
+  may_note ms same n i = subst (OfBlock n (λ b. AllAlive b.rows scene.table.table)) (sym a.attaches.blocks.blocks) (can_note arrives n (subst (In n) same i))
 
-    pub theirs_placed : IsPlaced w.registry scene.store.blocks t
-    theirs_placed = subst (λ (q : List TypeInfo). IsPlaced q scene.store.blocks t) same is.agrees.placed
+  -- the table of the scene after its rows were noted
+  module _ (ms : List ℕ) (listed : ms ≡ ns) (v : Table) (noted : v ≡ all_noted mid.blocks ms scene.table.table) where
+    v_is : v ≡ there arrives
+    v_is =
+        noted
+        ∙ ap₂ (λ (xs : List Numbered) (ls : List ℕ). all_noted xs ls scene.table.table) a.attaches.blocks.blocks listed
+        ∙ noted_there arrives
 
-    abbrev pub after : Table
-    after = there w.registry bs scene.store.blocks cs ns u t mid.archetypes was.agrees.placed theirs_placed each distinct
+    pub may_make : (spare : ℕ) → table_alive scene.table.table ≤ spare → length (living v) ≤ spare
+    may_make spare enough =
+        let long = sym (length-map (living (there arrives)) place_of_item) ∙ places_long arrives in
+        subst (λ (x : Table). length (living x) ≤ spare) (sym v_is) (omega (arith, long, enough))
 
-    abbrev pub at : List Place
-    at = map place_of_item (living after)
-
-    pub may_note : (n : ℕ) → In n ns → OfBlock n (λ b. (e : Entity) → In e (map (λ (r : Row). r.entity) b.rows) → IsAlive t e) mid.blocks
-    may_note =
-        subst (λ (xs : List Numbered). (n : ℕ) → In n ns → OfBlock n (λ b. (e : Entity) → In e (map (λ (r : Row). r.entity) b.rows) → IsAlive t e) xs) (sym attaches.blocks.blocks)
-        (can_note w.registry bs scene.store.blocks cs ns u t mid.archetypes was.agrees.placed theirs_placed each distinct)
-
-    pub noted_after : all_noted mid.blocks ns t ≡ after
-    noted_after =
-        ap (λ (xs : List Numbered). all_noted xs ns t) attaches.blocks.blocks
-        ∙ noted_there w.registry bs scene.store.blocks cs ns u t mid.archetypes was.agrees.placed theirs_placed each distinct
-
-    at_long : length at ≡ table_alive t
-    at_long = places_long w.registry bs scene.store.blocks cs ns u t mid.archetypes was.agrees.placed theirs_placed each distinct
-
-    pub walk_long : length (living after) ≡ table_alive t
-    walk_long = sym (length-map (living after) place_of_item) ∙ at_long
-
-    pub may_name : (p : Place) → In p at → OfBlock p.block (λ b. p.row < length b.rows) mid.blocks
+    pub may_name : (p : Place) → In p (map place_of_item (living v)) → OfBlock p.block (λ b. p.row < length b.rows) mid.blocks
     may_name =
-        subst (λ (xs : List Numbered). (p : Place) → In p at → OfBlock p.block (λ b. p.row < length b.rows) xs) (sym attaches.blocks.blocks)
-        (can_name w.registry bs scene.store.blocks cs ns u t mid.archetypes was.agrees.placed theirs_placed each distinct)
+        subst (λ (x : Table). (p : Place) → In p (map place_of_item (living x)) → OfBlock p.block (λ b. p.row < length b.rows) mid.blocks) (sym v_is)
+        (λ p i. subst (OfBlock p.block (λ b. p.row < length b.rows)) (sym a.attaches.blocks.blocks) (can_name arrives p i))
 
-    abbrev pub named_cs : List Numbered
-    named_cs = named w.registry bs scene.store.blocks cs ns u t mid.archetypes was.agrees.placed theirs_placed each distinct
+    -- the store after its rows were named
+    module _ (u : Table) (reserved : u ≡ w.table.table) (s : StoreState) (names : s ≡ all_named (map place_of_item (living v)) u mid) where
+      s_is : s ≡ record mid { blocks = w.store.blocks ++ named arrives }
+      s_is = names ∙ ap₂ (λ (x y : Table). all_named (map place_of_item (living x)) y mid) v_is reserved ∙ rows_are_named arrives mid a.attaches.blocks.blocks
 
-    abbrev pub named_store : StoreState
-    named_store = record mid { blocks = bs ++ named_cs }
+      pub may_mark : (ls : List ℕ) → ls ≡ ns → (n : ℕ) → In n ls → OfBlock n (λ b. map mark_type b.marks ≡ b.types) s.blocks
+      may_mark ls same n i =
+          subst (λ (x : StoreState). OfBlock n (λ b. map mark_type b.marks ≡ b.types) x.blocks) (sym s_is)
+          (can_mark arrives (λ b j. (block_whole scene a.is b j).marked) n (subst (In n) same i))
 
-    pub store_named : all_named at u mid ≡ named_store
-    store_named = rows_are_named w.registry bs scene.store.blocks cs ns u t mid.archetypes was.agrees.placed theirs_placed each distinct mid attaches.blocks.blocks
+      -- the world in the end
+      module _ (new : AreNew (map place_of_item (living v)) u) (table : Spared) (makes : table.table ≡ all_made (map place_of_item (living v)) u)
+          (ls : List ℕ) (listed_again : ls ≡ ns) (store : StoreState) (marks : store ≡ each_written w.version.0 ls s) where
+        abbrev pub joined : Tables
+        joined = record w { store = store; table = table }
 
-    pub may_mark : (n : ℕ) → In n ns → OfBlock n (λ b. map mark_type b.marks ≡ b.types) named_store.blocks
-    may_mark =
-        can_mark w.registry bs scene.store.blocks cs ns u t mid.archetypes was.agrees.placed theirs_placed each distinct (λ b i. (block_whole scene is b i).marked)
+        abbrev blocks : List Numbered
+        blocks = w.store.blocks ++ arrived arrives w.version.0
 
-    abbrev pub new_blocks : List Numbered
-    new_blocks = bs ++ arrived w.registry bs scene.store.blocks cs ns u t mid.archetypes was.agrees.placed theirs_placed each distinct now
+        store_is : store ≡ record mid { blocks = blocks }
+        store_is =
+            marks
+            ∙ ap₂ (λ (ks : List ℕ) (x : StoreState). each_written w.version.0 ks x) listed_again s_is
+            ∙ blocks_are_marked arrives w.version.0 (record mid { blocks = w.store.blocks ++ named arrives }) refl
 
-    pub store_marked : each_written now ns named_store ≡ record mid { blocks = new_blocks }
-    store_marked = blocks_are_marked w.registry bs scene.store.blocks cs ns u t mid.archetypes was.agrees.placed theirs_placed each distinct now named_store refl
+        table_is : table.table ≡ all_made (places arrives) w.table.table
+        table_is = makes ∙ ap₂ (λ (x y : Table). all_made (map place_of_item (living x)) y) v_is reserved
 
-    module _ (new : AreNew at u) (table : Spared) (table_is : table.table ≡ all_made at u) (store : StoreState) (store_is : store ≡ record mid { blocks = new_blocks }) where
-      abbrev pub joined : Tables
-      joined = record w { store = store; table = table }
+        news : AreNew (places arrives) w.table.table
+        news =
+            subst (AreNew (places arrives)) reserved (subst (λ (x : Table). AreNew (map place_of_item (living x)) u) v_is new)
 
-      world_is : (state_of joined).world ≡ attached (state_of w).world (state_of scene).world
-      world_is =
-          ap₂ (λ (s : StoreState) (v : Table). world_of w.registry s.blocks v now) store_is table_is
-          ∙ arrived_world w.registry bs scene.store.blocks cs ns u t mid.archetypes was.agrees.placed theirs_placed each distinct now new
-          (code_sound (capacity w.registry) (state_of w).world was.lawful) (state_of scene).world refl (entities_walked scene is)
+        world_is : (state_of joined).world ≡ attached (state_of w).world (state_of scene).world
+        world_is =
+            ap₂ (λ (x : StoreState) (y : Table). world_of w.registry x.blocks y w.version.0) store_is table_is
+            ∙ arrived_world arrives w.version.0 news (code_sound (capacity w.registry) (state_of w).world a.was.lawful) (state_of scene).world refl (entities_walked scene a.is)
 
-      pub joined_becomes : Becomes (state_of w) (state_of joined) (attached (state_of w).world (state_of scene).world)
-      joined_becomes = record {
-        world_is = world_is;
-        numbers = subst (λ (s : StoreState). KeepsNumbers (state_of w) (state_of (record joined { store = s }))) (sym store_is)
-            (arrived_keeps w.registry bs scene.store.blocks cs ns u t mid.archetypes was.agrees.placed theirs_placed each distinct now new);
-        archetypes = record { more = attaches.grows.more; are = ap (λ (s : StoreState). s.archetypes) store_is ∙ attaches.grows.archetypes };
-      }
+        pub joined_becomes : Becomes (state_of w) (state_of joined) (attached (state_of w).world (state_of scene).world)
+        joined_becomes = record {
+          world_is = world_is;
+          numbers = subst (λ (x : StoreState). KeepsNumbers (state_of w) (state_of (record joined { store = x }))) (sym store_is) (arrived_keeps arrives w.version.0 news);
+          archetypes = record { more = a.attaches.grows.more; are = ap (λ (x : StoreState). x.archetypes) store_is ∙ a.attaches.grows.archetypes };
+        }
 
-      pub joined_consistent : alive_count (state_of scene).world ≤ room (state_of w).world → IsConsistent joined
-      joined_consistent fits = record {
-        agrees = record {
-          placed = subst (λ (s : StoreState). IsPlaced w.registry s.blocks table.table) (sym store_is)
-              (subst (IsPlaced w.registry new_blocks) (sym table_is)
-              (arrived_placed w.registry bs scene.store.blocks cs ns u t mid.archetypes was.agrees.placed theirs_placed each distinct now new));
-          registered = subst (λ (s : StoreState). IfSome s.registry (λ r. r ≡ w.registry)) (sym store_is)
-              (grown_registered w.registry w.store mid scene.store was.agrees.registered theirs attaches.grows);
-        };
-        lawful = subst (IsLawfulCode (capacity w.registry)) (sym world_is)
-            (attached_lawful_code (capacity w.registry) (state_of w).world (state_of scene).world was.lawful
-            (subst (λ (q : List TypeInfo). IsLawfulCode (capacity q) (state_of scene).world) same is.lawful) same fits);
-      }
+        pub joined_consistent : alive_count (state_of scene).world ≤ room (state_of w).world → IsConsistent joined
+        joined_consistent fits = record {
+          agrees = record {
+            placed = subst (λ (x : StoreState). IsPlaced w.registry x.blocks table.table) (sym store_is)
+                (subst (IsPlaced w.registry blocks) (sym table_is) (arrived_placed arrives w.version.0 news));
+            registered = subst (λ (x : StoreState). IfSome x.registry (λ r. r ≡ w.registry)) (sym store_is)
+                (grown_registered w.registry w.store mid scene.store a.was.agrees.registered (theirs w scene a.was a.is a.same) a.attaches.grows);
+          };
+          lawful = subst (IsLawfulCode (capacity w.registry)) (sym world_is)
+              (attached_lawful_code (capacity w.registry) (state_of w).world (state_of scene).world a.was.lawful
+              (subst (λ (q : List TypeInfo). IsLawfulCode (capacity q) (state_of scene).world) a.same a.is.lawful) a.same fits);
+        }
