@@ -114,11 +114,7 @@ fn null_parts(alloc: Global) -> Option<Vec<Part>> {
     let mut parts = Vec::new(alloc);
     parts.push(part_of(alloc, LINK, &[null])?).ok()?;
     parts
-        .push(part_of(
-            alloc,
-            PALS,
-            &[null, Value::Int(5), null, Value::Int(6)],
-        )?)
+        .push(part_of(alloc, PALS, &[null, Value::Int(5), null, Value::Int(6)])?)
         .ok()?;
     Some(parts)
 }
