@@ -56,6 +56,11 @@ unfolding operate
 operate_registry cap w (Create parts) = apply_registry cap w null_entity (decide_create (sight cap w) (by_type parts))
 operate_registry cap w (On e a) = acted_registry cap w e a (found e w.blocks)
 
+pub gives_registry : (old new : WorldState) (o : Operation) (r : Result Reply OpFault) → Gives old new o r → new.world.registry ≡ old.world.registry
+gives_registry old new o (Ok reply) gives = ap (λ (w : World). w.registry) gives.1.world_is ∙ operate_registry (capacity old.world.registry) old.world o
+gives_registry old new o (Err (fault.Skip cause)) gives = ap (λ (w : World). w.registry) gives.1.world
+gives_registry old new o (Err fault.Memory) gives = ap (λ (w : World). w.registry) gives.world
+
 -- ---- and the world lawful
 
 lawful_world : (old new : WorldState) (o : Operation) → Suits old.world.registry o → IsLawfulCode (capacity old.world.registry) old.world → new.world ≡ (after old o).world

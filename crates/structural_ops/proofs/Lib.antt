@@ -26,7 +26,13 @@ pub mod Lending
 pub mod Freezing
 pub mod Restoring
 pub mod Unlent
+pub mod Noting
+pub mod Marked
+pub mod Naming
+pub mod Arrived
+pub mod Attached
 pub mod Sighted
 pub mod Agreeing
 pub mod References
 pub mod Homes
+pub mod Walked

@@ -2,9 +2,11 @@ pub mod Faults
 pub mod Buffers
 pub mod Worlds
 pub mod Numbered
+pub mod Attaching
 pub mod Lent
 pub mod Freezing
 pub mod Readable
 pub mod Suited
 pub mod References
 pub mod Reads
+pub mod Places

@@ -4,6 +4,7 @@
 //! skips, block order, and which entity is made next are entsim's own rules.
 #![tactic(auto)]
 
+mod attach;
 mod blocks;
 mod buffers;
 mod elements;
@@ -12,6 +13,7 @@ mod fault;
 mod frozen;
 mod frozen_laws;
 mod lawful;
+mod living;
 mod loans;
 mod lookups;
 mod operations;

@@ -2,11 +2,11 @@
 ghost use Rattle.std.specs.Prelude.{◌≡◌, ◌<◌, ◌↔◌, IsTrue, map};
 ghost use Rattle.ent_types.specs.Fitting.{fits_elements, fits_field as kind_fits, fits_fields as fields_fit, fits_type};
 ghost use Rattle.ent_types.specs.declared.limits.TheConstants.{MOST_TYPES};
-ghost use Rattle.world_model.specs.Fits.{IsFitting};
+ghost use Rattle.world_model.specs.Fits.{IsElement, IsFitting};
 ghost use Rattle.world_model.specs.Lawful.{Suits};
 ghost use Rattle.world_model.specs.Operations.{Create};
 ghost use Rattle.world_model.specs.Part.{part_of as seen};
-ghost use Rattle.structural_ops.specs.Suited.{fits_part, parts_suit};
+ghost use Rattle.structural_ops.specs.Suited.{fits_element, fits_part, parts_suit};
 
 use crate::World;
 use ent_types::limits::MOST_ELEMENTS;
@@ -81,6 +81,15 @@ fn fits(registry: &Registry, part: &Part) -> bool
     registry.knows(part.ty) && fits_values(registry.info(part.ty), part.values.as_slice())
 }
 
+/// Says whether a part is of a known buffer type, with the values of one element.
+fn is_element(registry: &Registry, part: &Part) -> bool
+    ensures { result ≡ fits_element registry.now (seen part.now) }
+{
+    registry.knows(part.ty)
+        && registry.is_buffer(part.ty)
+        && fits_fields(registry.fields(part.ty), part.values.as_slice())
+}
+
 /// Says whether all parts fit, and are of types that aren't taken, each of another type.
 fn are_suited(registry: &Registry, parts: &[Part], taken: &TypeSet) -> bool
     ensures { result ≡ parts_suit registry.now taken.now (map seen parts.now) }
@@ -104,6 +113,13 @@ impl World {
         ensures { IsTrue result ↔ IsFitting self.now.world.registry (seen part.now) }
     {
         fits(&self.tables.registry, part)
+    }
+
+    /// Says whether a part is of a known buffer type, with the values of one element. `append` asks this.
+    pub fn takes_element(&self, part: &Part) -> bool
+        ensures { IsTrue result ↔ IsElement self.now.world.registry (seen part.now) }
+    {
+        is_element(&self.tables.registry, part)
     }
 
     /// Says whether an entity can have these parts: each fits, and no two are of one type. `create` asks this.

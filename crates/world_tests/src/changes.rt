@@ -104,14 +104,7 @@ pub enum Appended {
 
 /// Appends the values of a part to a buffer, if they are those of one element.
 pub fn append(world: &mut World, e: Entity, part: &Part) -> Appended {
-    let registry = world.registry();
-    if !registry.is_buffer(part.ty) {
-        return Appended::Otherwise;
-    }
-    if registry.fields(part.ty).len() != part.values.len() {
-        return Appended::Otherwise;
-    }
-    if !world.takes(part) {
+    if !world.takes_element(part) {
         return Appended::Otherwise;
     }
     match world.append(e, part) {

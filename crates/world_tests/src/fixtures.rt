@@ -17,6 +17,10 @@ pub const ITEMS: TypeId = TypeId(5);
 pub const GRAVE: TypeId = TypeId(6);
 /// A plain type with an i32 field that can be disabled.
 pub const GLOW: TypeId = TypeId(7);
+/// A plain type with a ref field.
+pub const LINK: TypeId = TypeId(8);
+/// A buffer type with a ref and an i32 field.
+pub const PALS: TypeId = TypeId(9);
 
 /// A type with fields of these kinds, named `a`, `b` ..
 fn type_info(
@@ -70,11 +74,25 @@ fn registry(alloc: Global) -> Option<Registry> {
     let registry = with_type(registry, team)?;
     let registry = with_type(registry, items)?;
     let registry = with_type(registry, grave)?;
-    with_type(registry, glow)
+    let registry = with_type(registry, glow)?;
+    with_references(alloc, registry)
+}
+
+/// The registry with the types that have ref fields.
+fn with_references(alloc: Global, registry: Registry) -> Option<Registry> {
+    let link = type_info(alloc, b"Link", Kind::Plain, &[FieldKind::Ref], false)?;
+    let pals = type_info(
+        alloc,
+        b"Pals",
+        Kind::Buffer,
+        &[FieldKind::Ref, FieldKind::I32],
+        false,
+    )?;
+    with_type(with_type(registry, link)?, pals)
 }
 
 /// The world of these types, without an entity.
-fn empty_world(alloc: Global) -> Option<World> {
+pub fn empty_world(alloc: Global) -> Option<World> {
     Some(World::new(alloc, registry(alloc)?, 1, 1))
 }
 
@@ -88,7 +106,7 @@ pub fn part(alloc: Global, ty: TypeId, numbers: &[i64]) -> Option<Part> {
 }
 
 /// Makes an entity with these parts, if they suit.
-fn create(world: &mut World, parts: &[Part]) -> Option<Entity> {
+pub fn create(world: &mut World, parts: &[Part]) -> Option<Entity> {
     if !world.takes_all(parts) {
         return None;
     }
@@ -96,7 +114,7 @@ fn create(world: &mut World, parts: &[Part]) -> Option<Entity> {
 }
 
 /// Parts with these numbers.
-fn parts(alloc: Global, entries: &[(TypeId, &[i64])]) -> Option<Vec<Part>> {
+pub fn parts(alloc: Global, entries: &[(TypeId, &[i64])]) -> Option<Vec<Part>> {
     let mut list = Vec::new(alloc);
     for (ty, numbers) in entries {
         list.push(part(alloc, *ty, numbers)?).ok()?;

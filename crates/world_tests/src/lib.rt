@@ -8,4 +8,12 @@ mod entities;
 #[cfg(test)]
 mod fixtures;
 #[cfg(test)]
+mod lending;
+#[cfg(test)]
+mod references;
+#[cfg(test)]
 mod rows;
+#[cfg(test)]
+mod scenes;
+#[cfg(test)]
+mod selecting;

@@ -6,7 +6,7 @@ use std::alloc::Global;
 use structural_ops::World;
 
 /// `true` if a field of a type that isn't a buffer has this number.
-fn has(world: &World, e: Entity, ty: TypeId, field: u8, number: i64) -> bool {
+pub fn has(world: &World, e: Entity, ty: TypeId, field: u8, number: i64) -> bool {
     if world.registry().is_buffer(ty) {
         return false;
     }
