@@ -8,3 +8,4 @@ pub mod Readable
 pub mod Suited
 pub mod References
 pub mod Reads
+pub mod Places

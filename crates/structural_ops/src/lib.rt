@@ -12,6 +12,7 @@ mod fault;
 mod frozen;
 mod frozen_laws;
 mod lawful;
+mod living;
 mod loans;
 mod lookups;
 mod operations;

@@ -1,0 +1,139 @@
+//! The pieces of a line, each appended to one buffer.
+ghost use Rattle.std.specs.Prelude.{◌≡◌, ◌≤◌, ◌++◌, ◌/◌, codes, length, take, drop, OnOk};
+ghost use Rattle.std.specs.List.{flat_map};
+ghost use Rattle.std.specs.Fmt.{decimal, signed_decimal};
+ghost use Rattle.ent_types.specs.declared.value.Value.TheVariants as value;
+ghost use Rattle.world_text.specs.Lines.{elements_of, elements_text, entity_text, value_text, values_text};
+
+use ent_types::{Entity, Value};
+use itoa::Buffer;
+use std::alloc::AllocError;
+
+/// Appends a number that isn't negative.
+pub(crate) fn push_count(line: &mut Vec<u8>, number: u64) -> Result<(), AllocError>
+    ensures { OnOk result (line.new.items ≡ line.old.items ++ decimal number) }
+{
+    let mut digits = Buffer::new();
+    line.extend_from_slice(digits.format(number).as_bytes())
+}
+
+/// Appends a number.
+pub(crate) fn push_number(line: &mut Vec<u8>, number: i64) -> Result<(), AllocError>
+    ensures { OnOk result (line.new.items ≡ line.old.items ++ signed_decimal number) }
+{
+    let mut digits = Buffer::new();
+    line.extend_from_slice(digits.format(number).as_bytes())
+}
+
+/// Appends some bytes, and a number after them.
+pub(crate) fn push_key_count(line: &mut Vec<u8>, key: &[u8], number: u64) -> Result<(), AllocError>
+    ensures { OnOk result (line.new.items ≡ line.old.items ++ (key.now ++ decimal number)) }
+{
+    line.extend_from_slice(key)?;
+    push_count(line, number)
+}
+
+/// Appends some bytes, and a word after them.
+pub(crate) fn push_key_word(line: &mut Vec<u8>, key: &[u8], word: &[u8]) -> Result<(), AllocError>
+    ensures { OnOk result (line.new.items ≡ line.old.items ++ (key.now ++ word.now)) }
+{
+    line.extend_from_slice(key)?;
+    line.extend_from_slice(word)
+}
+
+/// Appends `index:version`.
+#[tactic(auto, unfolding(crate::specs::Lines::entity_text))]
+pub(crate) fn push_entity(line: &mut Vec<u8>, entity: Entity) -> Result<(), AllocError>
+    ensures { OnOk result (line.new.items ≡ line.old.items ++ entity_text entity) }
+{
+    push_count(line, u64::from(entity.index))?;
+    line.push(b':')?;
+    push_count(line, u64::from(entity.version))
+}
+
+/// Appends a reference: `index:version`, or `null` for the null entity.
+#[tactic(auto, unfolding(crate::specs::Lines::value_text))]
+fn push_reference(line: &mut Vec<u8>, entity: Entity) -> Result<(), AllocError>
+    ensures { OnOk result (line.new.items ≡ line.old.items ++ value_text (value.Ref entity)) }
+{
+    if entity.index == 0 && entity.version == 0 {
+        return line.extend_from_slice(b"null");
+    }
+    push_entity(line, entity)
+}
+
+/// Appends the value of a field.
+#[tactic(auto, unfolding(crate::specs::Lines::value_text))]
+pub(crate) fn push_value(line: &mut Vec<u8>, value: Value) -> Result<(), AllocError>
+    ensures { OnOk result (line.new.items ≡ line.old.items ++ value_text value) }
+{
+    match value {
+        Value::Int(number) => push_number(line, number),
+        Value::Ref(entity) => push_reference(line, entity),
+    }
+}
+
+/// Appends some values, each after a comma.
+fn push_further(line: &mut Vec<u8>, values: &[Value]) -> Result<(), AllocError>
+    ensures { OnOk result (line.new.items ≡ line.old.items ++ flat_map (λ v. codes "," ++ value_text v) values.now) }
+{
+    for value in values {
+        line.push(b',')?;
+        push_value(line, *value)?;
+    }
+    Ok(())
+}
+
+/// Appends the values in parentheses; nothing if there are none.
+#[tactic(auto, unfolding(crate::specs::Lines::values_text))]
+pub(crate) fn push_values(line: &mut Vec<u8>, values: &[Value]) -> Result<(), AllocError>
+    ensures { OnOk result (line.new.items ≡ line.old.items ++ values_text values.now) }
+{
+    let Some((first, further)) = values.split_first() else {
+        return Ok(());
+    };
+    line.push(b'(')?;
+    push_value(line, *first)?;
+    push_further(line, further)?;
+    line.push(b')')?;
+    Ok(())
+}
+
+/// Appends the elements with these values, of `width` values each, and each after a comma.
+fn push_further_elements(
+    line: &mut Vec<u8>,
+    values: &[Value],
+    width: usize,
+) -> Result<(), AllocError>
+    requires { 1 ≤ width }
+    ensures { OnOk result (line.new.items ≡ line.old.items
+        ++ flat_map (λ element. codes "," ++ values_text element) (elements_of width (length values.now / width) values.now)) }
+{
+    let mut left = values;
+    while left.len() >= width {
+        line.push(b',')?;
+        push_values(line, &left[..width])?;
+        left = &left[width..];
+    }
+    Ok(())
+}
+
+/// Appends the elements with these values, of `width` values each, in brackets.
+#[tactic(auto, unfolding(crate::specs::Lines::elements_text))]
+pub(crate) fn push_elements(
+    line: &mut Vec<u8>,
+    values: &[Value],
+    width: usize,
+) -> Result<(), AllocError>
+    requires { 1 ≤ width }
+    ensures { OnOk result (line.new.items ≡ line.old.items ++ elements_text width values.now) }
+{
+    if values.len() < width {
+        return line.extend_from_slice(b"[]");
+    }
+    line.push(b'[')?;
+    push_values(line, &values[..width])?;
+    push_further_elements(line, &values[width..], width)?;
+    line.push(b']')?;
+    Ok(())
+}
