@@ -29,3 +29,4 @@ pub mod Unlent
 pub mod Sighted
 pub mod Agreeing
 pub mod References
+pub mod Walked

@@ -1,0 +1,4 @@
+pub mod Elements
+pub mod RowText
+pub mod Places
+pub mod Unchanged
