@@ -1,3 +1,4 @@
+pub mod Pieces
 pub mod Elements
 pub mod RowText
 pub mod Places

@@ -1,6 +1,7 @@
 -- What the line of a row says of a type, by what its block and its store have.
-use Rattle.std.proofs.Common.{ℕ, ◌≡◌, ◌<◌, ◌∙◌, Bool, true, false, cond, nat_eq, sym, ap, ap₂, refl, subst, List, [], ◌∷◌, length, map, Some, None, option_map}
+use Rattle.std.proofs.Common.{ℕ, ◌≡◌, ◌<◌, ◌∙◌, Bool, true, false, cond, nat_eq, sym, ap, ap₂, refl, subst, List, [], ◌∷◌, ◌++◌, codes, length, map, Some, None, option_map}
 use Rattle.std.specs.Bool.{MatchBool}
+use Rattle.std.specs.List.{flat_map}
 use Rattle.std.specs.Prelude.{unwrap_or}
 use Rattle.std.proofs.Math.ListN.{get_or-map}
 use Rattle.ent_types.specs.declared.type_info.TypeInfo.{TypeInfo}
@@ -19,7 +20,7 @@ use Rattle.world_rows.proofs.ByType.{own_fit, shape_is, shared_is}
 use Rattle.world_rows.proofs.Fitting.{of_type_new}
 use Rattle.world_rows.proofs.Reading.{cell_own, no_cell}
 use Rattle.structural_ops.proofs.Readable.{read_own, read_shared}
-use Rattle.world_text.specs.Lines.{is_disabled_in, part_text, type_text}
+use Rattle.world_text.specs.Lines.{entity_text, is_disabled_in, part_text, row_line, type_text}
 
 -- whether the first cell of a type is disabled
 off_content : (t : ℕ) (cells : List Cell) → (content_at t cells).off ≡ unwrap_or (option_map (λ (c : Cell). c.off) (cell_at t cells)) false
@@ -73,3 +74,8 @@ module _ (registry : List TypeInfo) (k t : ℕ) (b : Numbered) (can : CanRead re
 
       pub own_text_read : part_text registry t (cell_in k cells).off (cell_in k cells).values ≡ type_text registry (found_at k b) t
       own_text_read = ap (λ (c : Content). part_text registry t c.off c.values) cell_is ∙ own_text
+
+-- the pieces of a row's line
+pub row_line-is : (registry : List TypeInfo) (x : Found) → row_line registry x ≡ entity_text x.row.entity ++ (flat_map (type_text registry x) x.home.types ++ (cond x.row.dying (codes " dying") [] ++ codes "\n"))
+unfolding row_line
+row_line-is registry x = refl

@@ -5,7 +5,7 @@ use Rattle.world_model.specs.Found.{entities_by_index, found_by_index}
 use Rattle.structural_ops.specs.Places.{found_at_place}
 use Rattle.structural_ops.specs.Worlds.{WorldState, state_of}
 use Rattle.structural_ops.proofs.Walked.{entities_walked, rows_walked}
-use Rattle.structural_ops.proofs.living.World.living.Goals as goal
+use Rattle.structural_ops.proofs.world.World.living.Goals as goal
 
 pub returns-clause-rows : goal.returns-clause-rows
 returns-clause-rows c =
