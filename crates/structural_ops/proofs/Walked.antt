@@ -1,5 +1,5 @@
 -- The walk over the alive entities gives the rows by index.
-use Rattle.std.proofs.Common.{ℕ, zero, suc, ◌≡◌, ◌+◌, ◌<◌, ◌≤◌, ◌∙◌, Bool, true, false, cond, nat_eq, nat_lt, sym, ap, ap₂, refl, subst, List, [], ◌∷◌, length, map, find, slice_get, Option, Some, None, option_map, arith}
+use Rattle.std.proofs.Common.{ℕ, suc, ◌≡◌, ◌+◌, ◌<◌, ◌≤◌, ◌∙◌, Bool, true, false, cond, nat_eq, nat_lt, sym, ap, ap₂, refl, List, [], ◌∷◌, length, map, find, slice_get, Option, Some, None, option_map, arith}
 use Rattle.std.specs.Prelude.{slice_index_or}
 use Rattle.std.specs.List.{filter_map, cons_option, range_with_len}
 use Rattle.std.proofs.lemmas.Bool.{eq-eqb, eqb-true}
@@ -8,10 +8,10 @@ use Rattle.std.specs.Bool.{MatchBool}
 use Rattle.ent_types.specs.declared.entity.Entity.{Entity}
 use Rattle.entity_table.specs.declared.table.Place.{Place}
 use Rattle.entity_table.specs.Table.{Holder, living, living_from, place_at, place_of}
-use Rattle.world_model.specs.Members.{In, one_if, tally}
+use Rattle.world_model.specs.Members.{one_if, tally}
 use Rattle.world_model.specs.Row.{Row}
-use Rattle.world_model.specs.World.{Block, World, capacity}
-use Rattle.world_model.specs.Found.{Found, entities_by_index, found, found_by_index, has_index, is_of, placed}
+use Rattle.world_model.specs.World.{World, capacity}
+use Rattle.world_model.specs.Found.{Found, entities_by_index, found_by_index, has_index, is_of, placed}
 use Rattle.world_laws.proofs.Members.{find_in, find_passes}
 use Rattle.world_laws.proofs.Meanings.{find_only}
 use Rattle.archetype_store.specs.Stores.{Numbered, OfNumber}
