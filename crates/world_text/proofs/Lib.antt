@@ -1,4 +1,4 @@
-pub mod Pieces
+pub mod Appended
 pub mod Elements
 pub mod RowText
 pub mod Places

@@ -22,6 +22,16 @@ use Rattle.run_model.specs.declared.scene_fault.SceneFault.{SceneFault}
 use Rattle.run_model.specs.Frames.{Line, Noted, Traced}
 use Rattle.world_text.specs.Words.{point_name, scene_cause_name}
 
+-- ---- keys
+
+-- a key, and a number after it
+unfoldable pub count_text : List ℕ → ℕ → List ℕ
+count_text key n = key ++ decimal n
+
+-- a key, and a word after it
+unfoldable pub word_text : List ℕ → List ℕ → List ℕ
+word_text key word = key ++ word
+
 -- ---- values
 
 -- `index:version`
@@ -75,7 +85,7 @@ row_line registry x =
 
 -- the line before the rows
 unfoldable pub world_line : ℕ → ℕ → List ℕ
-world_line frames entities = codes "world frames=" ++ (decimal frames ++ (codes " entities=" ++ (decimal entities ++ codes "\n")))
+world_line frames entities = count_text (codes "world frames=") frames ++ (count_text (codes " entities=") entities ++ codes "\n")
 
 -- the lines of a world after some frames: the number of its rows, and each of them by index
 unfoldable pub world_text : ℕ → World → List ℕ
@@ -83,59 +93,58 @@ world_text frames w = world_line frames (alive_count w) ++ flat_map (row_line w.
 
 -- ---- notes
 
+-- how most lines begin: a word, and the frame
+unfoldable pub frame_text : List ℕ → ℕ → List ℕ
+frame_text word frame = word ++ count_text (codes " frame=") frame
+
 -- why an operation was skipped, at the end of a line
 unfoldable pub skip_text : Skip → List ℕ
-skip_text skip = codes " skip=" ++ (skip_name skip ++ codes "\n")
+skip_text skip = word_text (codes " skip=") (skip_name skip) ++ codes "\n"
 
 unfoldable pub event_skip_line : ℕ → ℕ → Skip → List ℕ
-event_skip_line frame event skip = codes "note frame=" ++ (decimal frame ++ (codes " event=" ++ (decimal event ++ skip_text skip)))
+event_skip_line frame event skip = frame_text (codes "note") frame ++ (count_text (codes " event=") event ++ skip_text skip)
 
 -- how the line of a load begins: a word, the load's name, and the frame
 unfoldable pub load_text : List ℕ → List ℕ → ℕ → List ℕ
-load_text word name frame = word ++ (name ++ (codes " frame=" ++ decimal frame))
+load_text word name frame = word_text word name ++ count_text (codes " frame=") frame
 
 -- the line of a load, with what came of it
 unfoldable pub load_line : List ℕ → List ℕ → ℕ → List ℕ → List ℕ
 load_line word name frame outcome = load_text word name frame ++ (outcome ++ codes "\n")
 
-unfoldable pub entities_text : ℕ → List ℕ
-entities_text entities = codes " entities=" ++ decimal entities
-
 unfoldable pub fault_text : SceneFault → List ℕ
-fault_text fault = codes " refused cause=" ++ (scene_cause_name fault.cause ++ (codes " byte=" ++ decimal fault.byte))
+fault_text fault = word_text (codes " refused cause=") (scene_cause_name fault.cause) ++ count_text (codes " byte=") fault.byte
 
 unfoldable pub pending_line : List ℕ → List ℕ
-pending_line name = codes "scene " ++ (name ++ codes " pending\n")
+pending_line name = word_text (codes "scene ") name ++ codes " pending\n"
 
 -- how the line of a command buffer begins: a word, the frame, the system that recorded it, and the point that plays it
 unfoldable pub buffer_text : List ℕ → ℕ → List ℕ → Point → List ℕ
-buffer_text word frame system point =
-    word ++ (codes " frame=" ++ (decimal frame ++ (codes " system=" ++ (system ++ (codes " point=" ++ point_name point)))))
+buffer_text word frame system point = frame_text word frame ++ (word_text (codes " system=") system ++ word_text (codes " point=") (point_name point))
 
 -- where a command was recorded
 unfoldable pub command_text : ℕ → ℕ → ℕ → List ℕ
-command_text item row command = codes " item=" ++ (decimal item ++ (codes " row=" ++ (decimal row ++ (codes " command=" ++ decimal command))))
+command_text item row command = count_text (codes " item=") item ++ (count_text (codes " row=") row ++ count_text (codes " command=") command)
 
 unfoldable pub command_skip_line : ℕ → List ℕ → Point → ℕ → ℕ → ℕ → Skip → List ℕ
-command_skip_line frame system point item row command skip =
-    buffer_text (codes "note") frame system point ++ (command_text item row command ++ skip_text skip)
+command_skip_line frame system point item row command skip = buffer_text (codes "note") frame system point ++ (command_text item row command ++ skip_text skip)
 
 unfoldable pub unplayed_line : ℕ → List ℕ → Point → ℕ → List ℕ
-unplayed_line frame system point commands = buffer_text (codes "unplayed") frame system point ++ (codes " commands=" ++ (decimal commands ++ codes "\n"))
+unplayed_line frame system point commands = buffer_text (codes "unplayed") frame system point ++ (count_text (codes " commands=") commands ++ codes "\n")
 
 unfoldable pub key_shared_line : ℕ → List ℕ → Point → ℤ → ℕ → ℕ → List ℕ
 key_shared_line frame system point key first_item second_item =
     buffer_text (codes "error keyshared") frame system point
-    ++ (codes " key=" ++ (signed_decimal key ++ (codes " items=" ++ (decimal first_item ++ (codes "," ++ (decimal second_item ++ codes "\n"))))))
+    ++ (word_text (codes " key=") (signed_decimal key) ++ (count_text (codes " items=") first_item ++ (count_text (codes ",") second_item ++ codes "\n")))
 
 unfoldable pub note_text : NoteLine → List ℕ
 note_text (EventSkip frame event skip) = event_skip_line frame event skip
-note_text (SceneArrived name frame entities) = load_line (codes "scene ") name frame (entities_text entities)
+note_text (SceneArrived name frame entities) = load_line (codes "scene ") name frame (count_text (codes " entities=") entities)
 note_text (SceneFaulty name frame fault) = load_line (codes "scene ") name frame (fault_text fault)
 note_text (SceneAbsent name frame) = load_line (codes "scene ") name frame (codes " refused cause=absent")
 note_text (SceneTooLong name frame) = load_line (codes "scene ") name frame (codes " refused cause=toolong")
 note_text (SceneFull name frame) = load_line (codes "scene ") name frame (codes " refused cause=full")
-note_text (Unloaded name frame entities) = load_line (codes "unload ") name frame (entities_text entities)
+note_text (Unloaded name frame entities) = load_line (codes "unload ") name frame (count_text (codes " entities=") entities)
 note_text (UnloadCancelled name frame) = load_line (codes "unload ") name frame (codes " cancelled")
 note_text (UnloadNone name frame) = load_line (codes "unload ") name frame (codes " none")
 note_text (CommandSkip frame system point item row command skip) = command_skip_line frame system point item row command skip
@@ -147,13 +156,13 @@ note_text (KeyShared frame system point key first_item second_item) = key_shared
 
 unfoldable pub run_line : ℕ → List ℕ → ℕ → ℕ → ℕ → ℕ → List ℕ
 run_line frame system version visits passing commands =
-    codes "run frame=" ++ (decimal frame ++ (codes " system=" ++ (system ++ (codes " version=" ++ (decimal version
-    ++ (codes " visits=" ++ (decimal visits ++ (codes "/" ++ (decimal passing ++ (codes " commands=" ++ (decimal commands ++ codes "\n")))))))))))
+    frame_text (codes "run") frame ++ (word_text (codes " system=") system ++ (count_text (codes " version=") version
+    ++ (count_text (codes " visits=") visits ++ (count_text (codes "/") passing ++ (count_text (codes " commands=") commands ++ codes "\n")))))
 
 unfoldable pub play_line : ℕ → Point → ℕ → ℕ → ℕ → List ℕ
 play_line frame point version buffers commands =
-    codes "play frame=" ++ (decimal frame ++ (codes " point=" ++ (point_name point ++ (codes " version=" ++ (decimal version
-    ++ (codes " buffers=" ++ (decimal buffers ++ (codes " commands=" ++ (decimal commands ++ codes "\n")))))))))
+    frame_text (codes "play") frame ++ (word_text (codes " point=") (point_name point) ++ (count_text (codes " version=") version
+    ++ (count_text (codes " buffers=") buffers ++ (count_text (codes " commands=") commands ++ codes "\n"))))
 
 unfoldable pub trace_text : TraceLine → List ℕ
 trace_text (Run frame system version visits passing commands) = run_line frame system version visits passing commands

@@ -2,10 +2,10 @@
 ghost use Rattle.std.specs.Prelude.{◌≡◌, ◌++◌, codes, OnOk};
 ghost use Rattle.ent_io.specs.End.{TextCauses};
 ghost use Rattle.ent_io.specs.Text.{Writes};
-ghost use Rattle.world_text.specs.Lines.{buffer_text, command_skip_line, command_text, entities_text, event_skip_line, fault_text, key_shared_line, load_line, load_text, note_text, pending_line, skip_text, unplayed_line};
+ghost use Rattle.world_text.specs.Lines.{buffer_text, command_skip_line, command_text, count_text, event_skip_line, fault_text, key_shared_line, load_line, load_text, note_text, pending_line, skip_text, unplayed_line};
 
 use crate::names::{point_name, scene_cause_name};
-use crate::pieces::{push_key_count, push_key_word, push_number};
+use crate::pieces::{push_frame, push_key_count, push_key_number, push_key_word};
 use ent_io::{Sink, TextEnd, write_whole};
 use ent_types::{Name, Point, Skip};
 use run_model::{NoteLine, SceneFault};
@@ -26,7 +26,7 @@ fn push_skip(line: &mut Vec<u8>, skip: Skip) -> Result<(), AllocError>
 fn push_event_skip(line: &mut Vec<u8>, frame: u32, event: u32, skip: Skip) -> Result<(), AllocError>
     ensures { OnOk result (line.new.items ≡ line.old.items ++ event_skip_line frame event skip) }
 {
-    push_key_count(line, b"note frame=", u64::from(frame))?;
+    push_frame(line, b"note", frame)?;
     push_key_count(line, b" event=", u64::from(event))?;
     push_skip(line, skip)
 }
@@ -57,11 +57,13 @@ fn push_load(
     ensures { OnOk result (line.new.items ≡ line.old.items ++ load_line word.now name.now frame outcome.now) }
 {
     push_load_start(line, word, name, frame)?;
-    push_key_word(line, outcome, b"\n")
+    line.extend_from_slice(outcome)?;
+    line.push(b'\n')?;
+    Ok(())
 }
 
 /// Appends the line of a load whose entities came or went.
-#[tactic(auto, unfolding(crate::specs::Lines::load_line, crate::specs::Lines::entities_text))]
+#[tactic(auto, unfolding(crate::specs::Lines::load_line))]
 fn push_entities(
     line: &mut Vec<u8>,
     word: &[u8],
@@ -69,7 +71,7 @@ fn push_entities(
     frame: u32,
     entities: u32,
 ) -> Result<(), AllocError>
-    ensures { OnOk result (line.new.items ≡ line.old.items ++ load_line word.now name.now frame (entities_text entities)) }
+    ensures { OnOk result (line.new.items ≡ line.old.items ++ load_line word.now name.now frame (count_text (codes " entities=") entities)) }
 {
     push_load_start(line, word, name, frame)?;
     push_key_count(line, b" entities=", u64::from(entities))?;
@@ -77,8 +79,18 @@ fn push_entities(
     Ok(())
 }
 
+/// Appends why a scene was refused, and at which byte of its file.
+#[tactic(auto, unfolding(crate::specs::Lines::fault_text))]
+fn push_fault(line: &mut Vec<u8>, fault: SceneFault) -> Result<(), AllocError>
+    ensures { OnOk result (line.new.items ≡ line.old.items ++ fault_text fault) }
+{
+    let cause = scene_cause_name(fault.cause);
+    push_key_word(line, b" refused cause=", cause.as_bytes())?;
+    push_key_count(line, b" byte=", u64::from(fault.byte))
+}
+
 /// Appends the line of a load whose file isn't well formed.
-#[tactic(auto, unfolding(crate::specs::Lines::load_line, crate::specs::Lines::fault_text))]
+#[tactic(auto, unfolding(crate::specs::Lines::load_line))]
 fn push_scene_fault(
     line: &mut Vec<u8>,
     name: &Name,
@@ -88,12 +100,7 @@ fn push_scene_fault(
     ensures { OnOk result (line.new.items ≡ line.old.items ++ load_line (codes "scene ") name.now frame (fault_text fault)) }
 {
     push_load_start(line, b"scene ", name, frame)?;
-    push_key_word(
-        line,
-        b" refused cause=",
-        scene_cause_name(fault.cause).as_bytes(),
-    )?;
-    push_key_count(line, b" byte=", u64::from(fault.byte))?;
+    push_fault(line, fault)?;
     line.push(b'\n')?;
     Ok(())
 }
@@ -118,8 +125,7 @@ fn push_buffer_start(
 ) -> Result<(), AllocError>
     ensures { OnOk result (line.new.items ≡ line.old.items ++ buffer_text word.now frame system.now point) }
 {
-    line.extend_from_slice(word)?;
-    push_key_count(line, b" frame=", u64::from(frame))?;
+    push_frame(line, word, frame)?;
     push_key_word(line, b" system=", system.as_bytes())?;
     push_key_word(line, b" point=", point_name(point).as_bytes())
 }
@@ -184,8 +190,7 @@ fn push_key_shared(
     ensures { OnOk result (line.new.items ≡ line.old.items ++ key_shared_line frame system.now point key first_item second_item) }
 {
     push_buffer_start(line, b"error keyshared", frame, system, point)?;
-    line.extend_from_slice(b" key=")?;
-    push_number(line, i64::from(key))?;
+    push_key_number(line, b" key=", i64::from(key))?;
     push_key_count(line, b" items=", u64::from(first_item))?;
     push_key_count(line, b",", u64::from(second_item))?;
     line.push(b'\n')?;

@@ -3,14 +3,14 @@ ghost use Rattle.std.specs.Prelude.{◌≡◌, ◌≤◌, ◌++◌, ◌/◌, cod
 ghost use Rattle.std.specs.List.{flat_map};
 ghost use Rattle.std.specs.Fmt.{decimal, signed_decimal};
 ghost use Rattle.ent_types.specs.declared.value.Value.TheVariants as value;
-ghost use Rattle.world_text.specs.Lines.{elements_of, elements_text, entity_text, value_text, values_text};
+ghost use Rattle.world_text.specs.Lines.{count_text, elements_of, elements_text, entity_text, frame_text, value_text, values_text, word_text};
 
 use ent_types::{Entity, Value};
 use itoa::Buffer;
 use std::alloc::AllocError;
 
 /// Appends a number that isn't negative.
-pub(crate) fn push_count(line: &mut Vec<u8>, number: u64) -> Result<(), AllocError>
+fn push_count(line: &mut Vec<u8>, number: u64) -> Result<(), AllocError>
     ensures { OnOk result (line.new.items ≡ line.old.items ++ decimal number) }
 {
     let mut digits = Buffer::new();
@@ -18,27 +18,47 @@ pub(crate) fn push_count(line: &mut Vec<u8>, number: u64) -> Result<(), AllocErr
 }
 
 /// Appends a number.
-pub(crate) fn push_number(line: &mut Vec<u8>, number: i64) -> Result<(), AllocError>
+fn push_number(line: &mut Vec<u8>, number: i64) -> Result<(), AllocError>
     ensures { OnOk result (line.new.items ≡ line.old.items ++ signed_decimal number) }
 {
     let mut digits = Buffer::new();
     line.extend_from_slice(digits.format(number).as_bytes())
 }
 
-/// Appends some bytes, and a number after them.
+/// Appends a key, and a number after it.
+#[tactic(auto, unfolding(crate::specs::Lines::count_text))]
 pub(crate) fn push_key_count(line: &mut Vec<u8>, key: &[u8], number: u64) -> Result<(), AllocError>
-    ensures { OnOk result (line.new.items ≡ line.old.items ++ (key.now ++ decimal number)) }
+    ensures { OnOk result (line.new.items ≡ line.old.items ++ count_text key.now number) }
 {
     line.extend_from_slice(key)?;
     push_count(line, number)
 }
 
-/// Appends some bytes, and a word after them.
+/// Appends a key, and a number after it that may be negative.
+#[tactic(auto, unfolding(crate::specs::Lines::word_text))]
+pub(crate) fn push_key_number(line: &mut Vec<u8>, key: &[u8], number: i64) -> Result<(), AllocError>
+    ensures { OnOk result (line.new.items ≡ line.old.items ++ word_text key.now (signed_decimal number)) }
+{
+    line.extend_from_slice(key)?;
+    push_number(line, number)
+}
+
+/// Appends a key, and a word after it.
+#[tactic(auto, unfolding(crate::specs::Lines::word_text))]
 pub(crate) fn push_key_word(line: &mut Vec<u8>, key: &[u8], word: &[u8]) -> Result<(), AllocError>
-    ensures { OnOk result (line.new.items ≡ line.old.items ++ (key.now ++ word.now)) }
+    ensures { OnOk result (line.new.items ≡ line.old.items ++ word_text key.now word.now) }
 {
     line.extend_from_slice(key)?;
     line.extend_from_slice(word)
+}
+
+/// Appends how most lines begin: a word, and the frame.
+#[tactic(auto, unfolding(crate::specs::Lines::frame_text))]
+pub(crate) fn push_frame(line: &mut Vec<u8>, word: &[u8], frame: u32) -> Result<(), AllocError>
+    ensures { OnOk result (line.new.items ≡ line.old.items ++ frame_text word.now frame) }
+{
+    line.extend_from_slice(word)?;
+    push_key_count(line, b" frame=", u64::from(frame))
 }
 
 /// Appends `index:version`.
@@ -111,9 +131,10 @@ fn push_further_elements(
 {
     let mut left = values;
     while left.len() >= width {
+        let (element, further) = left.split_at(width);
         line.push(b',')?;
-        push_values(line, &left[..width])?;
-        left = &left[width..];
+        push_values(line, element)?;
+        left = further;
     }
     Ok(())
 }
@@ -129,11 +150,13 @@ pub(crate) fn push_elements(
     ensures { OnOk result (line.new.items ≡ line.old.items ++ elements_text width values.now) }
 {
     if values.len() < width {
-        return line.extend_from_slice(b"[]");
+        line.extend_from_slice(b"[]")?;
+        return Ok(());
     }
+    let (first, further) = values.split_at(width);
     line.push(b'[')?;
-    push_values(line, &values[..width])?;
-    push_further_elements(line, &values[width..], width)?;
+    push_values(line, first)?;
+    push_further_elements(line, further, width)?;
     line.push(b']')?;
     Ok(())
 }

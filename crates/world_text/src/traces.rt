@@ -5,7 +5,7 @@ ghost use Rattle.ent_io.specs.Text.{Writes};
 ghost use Rattle.world_text.specs.Lines.{play_line, run_line, trace_text};
 
 use crate::names::point_name;
-use crate::pieces::{push_key_count, push_key_word};
+use crate::pieces::{push_frame, push_key_count, push_key_word};
 use ent_io::{Sink, TextEnd, write_whole};
 use ent_types::{Name, Point};
 use run_model::TraceLine;
@@ -24,7 +24,7 @@ fn push_run(
 ) -> Result<(), AllocError>
     ensures { OnOk result (line.new.items ≡ line.old.items ++ run_line frame system.now version visits passing commands) }
 {
-    push_key_count(line, b"run frame=", u64::from(frame))?;
+    push_frame(line, b"run", frame)?;
     push_key_word(line, b" system=", system.as_bytes())?;
     push_key_count(line, b" version=", u64::from(version))?;
     push_key_count(line, b" visits=", u64::from(visits))?;
@@ -46,7 +46,7 @@ fn push_play(
 ) -> Result<(), AllocError>
     ensures { OnOk result (line.new.items ≡ line.old.items ++ play_line frame point version buffers commands) }
 {
-    push_key_count(line, b"play frame=", u64::from(frame))?;
+    push_frame(line, b"play", frame)?;
     push_key_word(line, b" point=", point_name(point).as_bytes())?;
     push_key_count(line, b" version=", u64::from(version))?;
     push_key_count(line, b" buffers=", u64::from(buffers))?;

@@ -1,6 +1,6 @@
 use Rattle.std.proofs.Common.{◌≡◌, ◌++◌, ◌<◌, ◌∙◌, ap, sym, subst, length, List, ℕ, Some}
 use Rattle.std.specs.Prelude.{⊤}
-use Rattle.std.proofs.lemmas.Result.{OnOk-weaker}
+use Rattle.std.proofs.lemmas.Result.{on_ok_weaker}
 use Rattle.world_model.specs.Found.{part_at}
 use Rattle.world_model.specs.Members.{In}
 use Rattle.chunk_block.specs.Blocks.{BlockState, Lacks, OfType, content_at}
