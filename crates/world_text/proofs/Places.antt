@@ -57,15 +57,18 @@ module _ (registry : List TypeInfo) (p : Place) where
       by false found rest = rest found
 
   -- the line of a row is that of its place
-  pub line_there : (text : List ℕ) (bs : List Numbered) → OfNumber p.block (λ b. (p.row < length b.block.rows) × (text ≡ row_line registry (found_at p.row b))) bs → text ≡ line_at registry bs p
-  line_there text [] is = absurd is
-  line_there text (b ∷ bs) is = by (nat_eq b.number p.block) is (line_there text bs)
-    where
-      by : (t : Bool) → MatchBool t ((p.row < length b.block.rows) × (text ≡ row_line registry (found_at p.row b))) (OfNumber p.block (λ c. (p.row < length c.block.rows) × (text ≡ row_line registry (found_at p.row c))) bs)
-          → (OfNumber p.block (λ c. (p.row < length c.block.rows) × (text ≡ row_line registry (found_at p.row c))) bs → text ≡ line_at registry bs p)
-          → text ≡ line_of registry (cond t (option_map (row_of b) (slice_get b.block.rows p.row)) (found_in p (numbers_of bs) (world_blocks bs)))
-      by true here rest = here.1 ∙ sym (ap (λ o. line_of registry (option_map (row_of b) o)) (slice_get-get_or b.block.rows p.row no_row here.0))
-      by false later rest = rest later
+  module _ (before after : List ℕ) where
+    abbrev HasLine : Numbered → Type 0
+    HasLine b = (p.row < length b.block.rows) × (after ≡ before ++ row_line registry (found_at p.row b))
+
+    pub line_there : (bs : List Numbered) → OfNumber p.block HasLine bs → after ≡ before ++ line_at registry bs p
+    line_there [] is = absurd is
+    line_there (b ∷ bs) is = by (nat_eq b.number p.block) is (line_there bs)
+      where
+        by : (t : Bool) → MatchBool t (HasLine b) (OfNumber p.block HasLine bs) → (OfNumber p.block HasLine bs → after ≡ before ++ line_at registry bs p)
+            → after ≡ before ++ line_of registry (cond t (option_map (row_of b) (slice_get b.block.rows p.row)) (found_in p (numbers_of bs) (world_blocks bs)))
+        by true here rest = here.1 ∙ sym (ap (λ o. before ++ line_of registry (option_map (row_of b) o)) (slice_get-get_or b.block.rows p.row no_row here.0))
+        by false later rest = rest later
 
 -- ---- a walk over entities with their places
 

@@ -9,7 +9,8 @@ ghost use Rattle.archetype_store.specs.Stores.{OfNumber};
 ghost use Rattle.world_model.specs.Fits.{Fits, IsKnown};
 ghost use Rattle.world_model.specs.Members.{In};
 ghost use Rattle.world_rows.specs.Reading.{CanRead, found_at};
-ghost use Rattle.world_text.specs.Lines.{part_text, row_line, type_text, value_text, values_text};
+ghost use Rattle.world_text.specs.Lines.{part_text, type_text, value_text, values_text};
+ghost use Rattle.world_text.specs.ByPlace.{line_at};
 
 use crate::pieces::{push_elements, push_entity, push_value, push_values};
 use archetype_store::ArchetypeStore;
@@ -165,7 +166,6 @@ fn push_types(
 }
 
 /// Appends the line of a row. Each of its types is looked up once in its block.
-#[tactic(auto, unfolding(crate::specs::Lines::row_line))]
 pub(crate) fn push_row(
     line: &mut Vec<u8>,
     store: &ArchetypeStore,
@@ -173,10 +173,11 @@ pub(crate) fn push_row(
     place: Place,
 ) -> Result<(), AllocError>
     requires { OfNumber place.block (CanRead registry.now place.row) store.now.blocks }
-    ensures { OnOk result (OfNumber place.block (λ b. line.new.items ≡ line.old.items ++ row_line registry.now (found_at place.row b)) store.now.blocks) }
+    ensures { OnOk result (line.new.items ≡ line.old.items ++ line_at registry.now store.now.blocks place) }
 {
     let block = store.block(place.block);
     push_entity(line, block.entity_at(place.row))?;
     push_types(line, store, registry, place, block.types())?;
-    line.extend_from_slice(after_types(block.dying(place.row)))
+    line.extend_from_slice(after_types(block.dying(place.row)))?;
+    Ok(())
 }
