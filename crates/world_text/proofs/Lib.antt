@@ -2,4 +2,4 @@ pub mod Appended
 pub mod Elements
 pub mod RowText
 pub mod Places
-pub mod Unchanged
+pub mod WorldLines

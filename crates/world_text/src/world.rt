@@ -72,7 +72,7 @@ fn write_rows<W: Sink>(world: &World, line: &mut Vec<u8>, out: &mut W) -> Result
     world.is_lawful();
     let registry = world.registry();
     let store = world.store();
-    for (_entity, place) in world.living() {
+    for (_, place) in world.living() {
         write_row(store, registry, place, line, out)?;
     }
     Ok(())

@@ -12,9 +12,9 @@ use Rattle.world_text.specs.Lines.{row_line}
 use Rattle.world_text.proofs.world.write_rows.Given as goal
 
 -- the lines so far, and those of the entities that are left
-abbrev pub invariant-loop-entity : goal.invariant-loop-entity
-invariant-loop-entity g l = record {
-  text : Leaves (flat_map (row_line l.world.world.registry) (found_by_index l.world.world)) (flat_map (λ (e : Entity × Place). line_at l.world.world.registry l.store.blocks e.1) l.entity-iterator) (g.W.Sink.text l.fn.out) (g.W.Sink.text l.out);
+abbrev pub invariant-loop-place : goal.invariant-loop-place
+invariant-loop-place g l = record {
+  text : Leaves (flat_map (row_line l.world.world.registry) (found_by_index l.world.world)) (flat_map (λ (e : Entity × Place). line_at l.world.world.registry l.store.blocks e.1) l.place-iterator) (g.W.Sink.text l.fn.out) (g.W.Sink.text l.out);
   faults : g.W.Sink.faults l.out ≡ g.W.Sink.faults l.fn.out;
-  readable : (e : Entity × Place) → In e l.entity-iterator → OfNumber e.1.block (CanRead l.world.world.registry e.1.row) l.store.blocks;
+  readable : (e : Entity × Place) → In e l.place-iterator → OfNumber e.1.block (CanRead l.world.world.registry e.1.row) l.store.blocks;
 }
