@@ -12,6 +12,10 @@ three_pieces a x y z b c d first second third = two_pieces a x (y ++ z) b d firs
 pub four_pieces : (a x y z u b c d e : List ℕ) → b ≡ a ++ x → c ≡ b ++ y → d ≡ c ++ z → e ≡ d ++ u → e ≡ a ++ (x ++ (y ++ (z ++ u)))
 four_pieces a x y z u b c d e first second third fourth = two_pieces a x (y ++ (z ++ u)) b e first (three_pieces b y z u c d e second third fourth)
 
+pub five_pieces : (a x y z u v b c d e f : List ℕ) → b ≡ a ++ x → c ≡ b ++ y → d ≡ c ++ z → e ≡ d ++ u → f ≡ e ++ v → f ≡ a ++ (x ++ (y ++ (z ++ (u ++ v))))
+five_pieces a x y z u v b c d e f first second third fourth fifth =
+    two_pieces a x (y ++ (z ++ (u ++ v))) b f first (four_pieces b y z u v c d e f second third fourth fifth)
+
 -- ---- texts of sinks
 
 -- the first part was written, and then the rest or a prefix of it

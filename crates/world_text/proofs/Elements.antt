@@ -1,5 +1,5 @@
 -- The elements of a buffer, the first one apart.
-use Rattle.std.proofs.Common.{ℕ, suc, ◌≡◌, ◌+◌, ◌-◌, ◌/◌, ◌<◌, ◌≤◌, ◌∙◌, sym, ap, append_assoc, List, [], ◌∷◌, ◌++◌, codes, length, take, drop, length-drop, arith}
+use Rattle.std.proofs.Common.{ℕ, suc, ◌≡◌, ◌+◌, ◌/◌, ◌<◌, ◌≤◌, ◌∙◌, sym, ap, append_assoc, List, [], ◌∷◌, ◌++◌, codes, length, take, drop, length-drop, arith}
 use Rattle.std.specs.List.{flat_map, join_by}
 use Rattle.std.proofs.Math.Nat.{add-div_right, div-eq_of_lt}
 use Rattle.ent_types.specs.declared.value.Value.{Value}

@@ -2,13 +2,13 @@
 use Rattle.std.proofs.Common.{ℕ, ◌≡◌, ◌<◌, ◌∙◌, inl, inr, Bool, true, false, cond, nat_eq, sym, ap, ap₂, refl, subst, List, [], ◌∷◌, ◌++◌, length, map, slice_get, Option, Some, None, option_map, arith, get_or, zero, suc}
 use Rattle.std.specs.Bool.{MatchBool}
 use Rattle.std.specs.List.{flat_map}
-use Rattle.std.proofs.lemmas.Option.{get_or_from_slice_get, none-some, same_Some, slice_get-get_or, slice_get_within}
+use Rattle.std.proofs.lemmas.Option.{none-some, slice_get-get_or, slice_get_within}
 use Rattle.ent_types.specs.declared.entity.Entity.{Entity}
 use Rattle.ent_types.specs.declared.type_info.TypeInfo.{TypeInfo}
 use Rattle.entity_table.specs.declared.table.Place.{Place}
 use Rattle.world_model.specs.Members.{In}
 use Rattle.world_model.specs.Row.{Row}
-use Rattle.world_model.specs.World.{Block, World, capacity}
+use Rattle.world_model.specs.World.{capacity}
 use Rattle.world_model.specs.Found.{Found, placed}
 use Rattle.world_model.specs.Lawful.{IsLawfulRow}
 use Rattle.world_model.specs.Versions.{IsLawfulCode}

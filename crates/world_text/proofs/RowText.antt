@@ -1,5 +1,5 @@
 -- What the line of a row says of a type, by what its block and its store have.
-use Rattle.std.proofs.Common.{ℕ, ◌≡◌, ◌<◌, ◌∙◌, Bool, true, false, cond, nat_eq, sym, ap, ap₂, refl, subst, List, [], ◌∷◌, ◌++◌, codes, length, map, Some, None, option_map}
+use Rattle.std.proofs.Common.{ℕ, ◌≡◌, ◌∙◌, Bool, true, false, cond, nat_eq, sym, ap, ap₂, refl, subst, List, [], ◌∷◌, ◌++◌, codes, map, Some, option_map}
 use Rattle.std.specs.Bool.{MatchBool}
 use Rattle.std.specs.List.{flat_map}
 use Rattle.std.specs.Prelude.{unwrap_or}
@@ -12,15 +12,15 @@ use Rattle.world_model.specs.Fits.{Fits}
 use Rattle.world_model.specs.Members.{In}
 use Rattle.world_model.specs.Row.{Row, Cell}
 use Rattle.block_columns.specs.declared.shape.TypeShape.{TypeShape}
-use Rattle.block_columns.specs.Types.{Content, blank_cell, cell_in}
+use Rattle.block_columns.specs.Types.{Content, cell_in}
 use Rattle.chunk_block.specs.Blocks.{BlockType, Lacks, OfType, content_at, content_of, no_row, row_in, shape_of}
 use Rattle.archetype_store.specs.Stores.{Numbered}
 use Rattle.world_rows.specs.Reading.{CanRead, found_at}
-use Rattle.world_rows.proofs.ByType.{own_fit, shape_is, shared_is}
+use Rattle.world_rows.proofs.ByType.{own_fit, shape_is}
 use Rattle.world_rows.proofs.Fitting.{of_type_new}
 use Rattle.world_rows.proofs.Reading.{cell_own, no_cell}
 use Rattle.structural_ops.proofs.Readable.{read_own, read_shared}
-use Rattle.world_text.specs.Lines.{entity_text, is_disabled_in, part_text, row_line, type_text}
+use Rattle.world_text.specs.Lines.{entity_text, part_text, row_line, type_text}
 
 -- whether the first cell of a type is disabled
 off_content : (t : ℕ) (cells : List Cell) → (content_at t cells).off ≡ unwrap_or (option_map (λ (c : Cell). c.off) (cell_at t cells)) false

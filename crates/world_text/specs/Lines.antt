@@ -1,5 +1,5 @@
 -- The lines of a run: the world at its end, the notes, and the traces. A line ends with one line feed.
-use Rattle.std.specs.Prelude.{ℕ, ℤ, zero, suc, ◌/◌, Bool, false, ◌&&◌, if◌then◌else◌, nat_eq, List, [], ◌∷◌, ◌++◌, codes, length, map, take, drop, option_map, unwrap_or}
+use Rattle.std.specs.Prelude.{ℕ, ℤ, zero, suc, ◌/◌, Bool, false, ◌&&◌, if◌then◌else◌, nat_eq, List, [], ◌∷◌, ◌++◌, codes, length, take, drop, option_map, unwrap_or}
 use Rattle.std.specs.List.{flat_map, join_by}
 use Rattle.std.specs.Fmt.{decimal, signed_decimal}
 use Rattle.ent_types.specs.declared.entity.Entity.{Entity}
@@ -24,13 +24,13 @@ use Rattle.world_text.specs.Words.{point_name, scene_cause_name}
 
 -- ---- keys
 
--- a key, and a number after it
-unfoldable pub count_text : List ℕ → ℕ → List ℕ
-count_text key n = key ++ decimal n
-
 -- a key, and a word after it
 unfoldable pub word_text : List ℕ → List ℕ → List ℕ
 word_text key word = key ++ word
+
+-- a key, and a number after it
+abbrev pub count_text : List ℕ → ℕ → List ℕ
+count_text key n = word_text key (decimal n)
 
 -- ---- values
 

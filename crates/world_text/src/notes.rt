@@ -5,7 +5,7 @@ ghost use Rattle.ent_io.specs.Text.{Writes};
 ghost use Rattle.world_text.specs.Lines.{buffer_text, command_skip_line, command_text, count_text, event_skip_line, fault_text, key_shared_line, load_line, load_text, note_text, pending_line, skip_text, unplayed_line};
 
 use crate::names::{point_name, scene_cause_name};
-use crate::pieces::{push_frame, push_key_count, push_key_number, push_key_word};
+use crate::pieces::{push_frame, push_key_number, push_key_word};
 use ent_io::{Sink, TextEnd, write_whole};
 use ent_types::{Name, Point, Skip};
 use run_model::{NoteLine, SceneFault};
@@ -27,7 +27,7 @@ fn push_event_skip(line: &mut Vec<u8>, frame: u32, event: u32, skip: Skip) -> Re
     ensures { OnOk result (line.new.items ≡ line.old.items ++ event_skip_line frame event skip) }
 {
     push_frame(line, b"note", frame)?;
-    push_key_count(line, b" event=", u64::from(event))?;
+    push_key_number(line, b" event=", event)?;
     push_skip(line, skip)
 }
 
@@ -42,7 +42,7 @@ fn push_load_start(
     ensures { OnOk result (line.new.items ≡ line.old.items ++ load_text word.now name.now frame) }
 {
     push_key_word(line, word, name.as_bytes())?;
-    push_key_count(line, b" frame=", u64::from(frame))
+    push_key_number(line, b" frame=", frame)
 }
 
 /// Appends the line of a load of which there is nothing to count.
@@ -74,7 +74,7 @@ fn push_entities(
     ensures { OnOk result (line.new.items ≡ line.old.items ++ load_line word.now name.now frame (count_text (codes " entities=") entities)) }
 {
     push_load_start(line, word, name, frame)?;
-    push_key_count(line, b" entities=", u64::from(entities))?;
+    push_key_number(line, b" entities=", entities)?;
     line.push(b'\n')?;
     Ok(())
 }
@@ -86,7 +86,7 @@ fn push_fault(line: &mut Vec<u8>, fault: SceneFault) -> Result<(), AllocError>
 {
     let cause = scene_cause_name(fault.cause);
     push_key_word(line, b" refused cause=", cause.as_bytes())?;
-    push_key_count(line, b" byte=", u64::from(fault.byte))
+    push_key_number(line, b" byte=", fault.byte)
 }
 
 /// Appends the line of a load whose file isn't well formed.
@@ -135,9 +135,9 @@ fn push_buffer_start(
 fn push_command(line: &mut Vec<u8>, item: u32, row: u32, command: u32) -> Result<(), AllocError>
     ensures { OnOk result (line.new.items ≡ line.old.items ++ command_text item row command) }
 {
-    push_key_count(line, b" item=", u64::from(item))?;
-    push_key_count(line, b" row=", u64::from(row))?;
-    push_key_count(line, b" command=", u64::from(command))
+    push_key_number(line, b" item=", item)?;
+    push_key_number(line, b" row=", row)?;
+    push_key_number(line, b" command=", command)
 }
 
 /// Appends the line of a command that was skipped.
@@ -171,7 +171,7 @@ fn push_unplayed(
     ensures { OnOk result (line.new.items ≡ line.old.items ++ unplayed_line frame system.now point commands) }
 {
     push_buffer_start(line, b"unplayed", frame, system, point)?;
-    push_key_count(line, b" commands=", commands)?;
+    push_key_number(line, b" commands=", commands)?;
     line.push(b'\n')?;
     Ok(())
 }
@@ -190,9 +190,9 @@ fn push_key_shared(
     ensures { OnOk result (line.new.items ≡ line.old.items ++ key_shared_line frame system.now point key first_item second_item) }
 {
     push_buffer_start(line, b"error keyshared", frame, system, point)?;
-    push_key_number(line, b" key=", i64::from(key))?;
-    push_key_count(line, b" items=", u64::from(first_item))?;
-    push_key_count(line, b",", u64::from(second_item))?;
+    push_key_number(line, b" key=", key)?;
+    push_key_number(line, b" items=", first_item)?;
+    push_key_number(line, b",", second_item)?;
     line.push(b'\n')?;
     Ok(())
 }

@@ -1,43 +1,29 @@
 //! The pieces of a line, each appended to one buffer.
 ghost use Rattle.std.specs.Prelude.{◌≡◌, ◌≤◌, ◌++◌, ◌/◌, codes, length, take, drop, OnOk};
 ghost use Rattle.std.specs.List.{flat_map};
-ghost use Rattle.std.specs.Fmt.{decimal, signed_decimal};
 ghost use Rattle.ent_types.specs.declared.value.Value.TheVariants as value;
-ghost use Rattle.world_text.specs.Lines.{count_text, elements_of, elements_text, entity_text, frame_text, value_text, values_text, word_text};
+ghost use Rattle.world_text.specs.Lines.{elements_of, elements_text, entity_text, frame_text, value_text, values_text, word_text};
 
 use ent_types::{Entity, Value};
-use itoa::Buffer;
+use itoa::{Buffer, Integer};
 use std::alloc::AllocError;
 
-/// Appends a number that isn't negative.
-fn push_count(line: &mut Vec<u8>, number: u64) -> Result<(), AllocError>
-    ensures { OnOk result (line.new.items ≡ line.old.items ++ decimal number) }
-{
-    let mut digits = Buffer::new();
-    line.extend_from_slice(digits.format(number).as_bytes())
-}
-
 /// Appends a number.
-fn push_number(line: &mut Vec<u8>, number: i64) -> Result<(), AllocError>
-    ensures { OnOk result (line.new.items ≡ line.old.items ++ signed_decimal number) }
+pub(crate) fn push_number<I: Integer>(line: &mut Vec<u8>, number: I) -> Result<(), AllocError>
+    ensures { OnOk result (line.new.items ≡ line.old.items ++ I.text number) }
 {
     let mut digits = Buffer::new();
     line.extend_from_slice(digits.format(number).as_bytes())
 }
 
 /// Appends a key, and a number after it.
-#[tactic(auto, unfolding(crate::specs::Lines::count_text))]
-pub(crate) fn push_key_count(line: &mut Vec<u8>, key: &[u8], number: u64) -> Result<(), AllocError>
-    ensures { OnOk result (line.new.items ≡ line.old.items ++ count_text key.now number) }
-{
-    line.extend_from_slice(key)?;
-    push_count(line, number)
-}
-
-/// Appends a key, and a number after it that may be negative.
 #[tactic(auto, unfolding(crate::specs::Lines::word_text))]
-pub(crate) fn push_key_number(line: &mut Vec<u8>, key: &[u8], number: i64) -> Result<(), AllocError>
-    ensures { OnOk result (line.new.items ≡ line.old.items ++ word_text key.now (signed_decimal number)) }
+pub(crate) fn push_key_number<I: Integer>(
+    line: &mut Vec<u8>,
+    key: &[u8],
+    number: I,
+) -> Result<(), AllocError>
+    ensures { OnOk result (line.new.items ≡ line.old.items ++ word_text key.now (I.text number)) }
 {
     line.extend_from_slice(key)?;
     push_number(line, number)
@@ -58,7 +44,7 @@ pub(crate) fn push_frame(line: &mut Vec<u8>, word: &[u8], frame: u32) -> Result<
     ensures { OnOk result (line.new.items ≡ line.old.items ++ frame_text word.now frame) }
 {
     line.extend_from_slice(word)?;
-    push_key_count(line, b" frame=", u64::from(frame))
+    push_key_number(line, b" frame=", frame)
 }
 
 /// Appends `index:version`.
@@ -66,9 +52,9 @@ pub(crate) fn push_frame(line: &mut Vec<u8>, word: &[u8], frame: u32) -> Result<
 pub(crate) fn push_entity(line: &mut Vec<u8>, entity: Entity) -> Result<(), AllocError>
     ensures { OnOk result (line.new.items ≡ line.old.items ++ entity_text entity) }
 {
-    push_count(line, u64::from(entity.index))?;
+    push_number(line, entity.index)?;
     line.push(b':')?;
-    push_count(line, u64::from(entity.version))
+    push_number(line, entity.version)
 }
 
 /// Appends a reference: `index:version`, or `null` for the null entity.

@@ -5,7 +5,7 @@ ghost use Rattle.ent_io.specs.Text.{Writes};
 ghost use Rattle.world_text.specs.Lines.{play_line, run_line, trace_text};
 
 use crate::names::point_name;
-use crate::pieces::{push_frame, push_key_count, push_key_word};
+use crate::pieces::{push_frame, push_key_number, push_key_word};
 use ent_io::{Sink, TextEnd, write_whole};
 use ent_types::{Name, Point};
 use run_model::TraceLine;
@@ -26,10 +26,10 @@ fn push_run(
 {
     push_frame(line, b"run", frame)?;
     push_key_word(line, b" system=", system.as_bytes())?;
-    push_key_count(line, b" version=", u64::from(version))?;
-    push_key_count(line, b" visits=", u64::from(visits))?;
-    push_key_count(line, b"/", u64::from(passing))?;
-    push_key_count(line, b" commands=", commands)?;
+    push_key_number(line, b" version=", version)?;
+    push_key_number(line, b" visits=", visits)?;
+    push_key_number(line, b"/", passing)?;
+    push_key_number(line, b" commands=", commands)?;
     line.push(b'\n')?;
     Ok(())
 }
@@ -48,9 +48,9 @@ fn push_play(
 {
     push_frame(line, b"play", frame)?;
     push_key_word(line, b" point=", point_name(point).as_bytes())?;
-    push_key_count(line, b" version=", u64::from(version))?;
-    push_key_count(line, b" buffers=", u64::from(buffers))?;
-    push_key_count(line, b" commands=", commands)?;
+    push_key_number(line, b" version=", version)?;
+    push_key_number(line, b" buffers=", buffers)?;
+    push_key_number(line, b" commands=", commands)?;
     line.push(b'\n')?;
     Ok(())
 }

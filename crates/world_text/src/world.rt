@@ -9,7 +9,7 @@ ghost use Rattle.world_rows.specs.Reading.{CanRead};
 ghost use Rattle.world_text.specs.ByPlace.{line_at};
 ghost use Rattle.world_text.specs.Lines.{row_line, world_line, world_text};
 
-use crate::pieces::push_key_count;
+use crate::pieces::push_key_number;
 use crate::rows::push_row;
 use archetype_store::ArchetypeStore;
 use ent_io::{Sink, TextEnd, write_whole};
@@ -23,8 +23,8 @@ use structural_ops::World;
 fn push_head(line: &mut Vec<u8>, frames: u32, entities: u32) -> Result<(), AllocError>
     ensures { OnOk result (line.new.items ≡ line.old.items ++ world_line frames entities) }
 {
-    push_key_count(line, b"world frames=", u64::from(frames))?;
-    push_key_count(line, b" entities=", u64::from(entities))?;
+    push_key_number(line, b"world frames=", frames)?;
+    push_key_number(line, b" entities=", entities)?;
     line.push(b'\n')?;
     Ok(())
 }

@@ -1,4 +1,4 @@
-use Rattle.std.proofs.Common.{◌≡◌, ◌++◌, ◌∙◌, ap, sym, List, ℕ, codes, drop, take}
+use Rattle.std.proofs.Common.{◌++◌, ◌∙◌, ap, sym, List, ℕ, codes, drop, take}
 use Rattle.world_text.specs.Lines.{values_text}
 use Rattle.world_text.proofs.Appended.{four_pieces}
 use Rattle.world_text.proofs.Elements.{elements_text-none, elements_text-some, further_text}

@@ -1,4 +1,4 @@
-use Rattle.std.proofs.Common.{◌≡◌, ◌++◌, ◌∙◌, ap, sym, List, ℕ, codes, length, ◌≤◌, subst}
+use Rattle.std.proofs.Common.{◌++◌, ◌∙◌, ap, sym, List, codes}
 use Rattle.std.specs.List.{flat_map}
 use Rattle.std.proofs.lemmas.List.{append-nil}
 use Rattle.ent_types.specs.declared.value.Value.{Value}

@@ -1,4 +1,4 @@
-use Rattle.std.proofs.Common.{◌≡◌, ◌≤◌, ◌∙◌, ap, sym, subst, length}
+use Rattle.std.proofs.Common.{◌≤◌, ◌∙◌, ap, sym, subst, length}
 use Rattle.chunk_block.proofs.New.{width_at}
 use Rattle.world_rows.proofs.Filled.{values_length}
 use Rattle.block_columns.specs.Types.{cell_in}

@@ -5,7 +5,7 @@ use Rattle.archetype_store.specs.Stores.{Numbered}
 use Rattle.world_places.proofs.Numbers.{of_both, of_more}
 use Rattle.world_rows.specs.Reading.{CanRead, found_at}
 use Rattle.structural_ops.proofs.Readable.{at_block}
-use Rattle.world_text.specs.Lines.{entity_text, row_line, type_text}
+use Rattle.world_text.specs.Lines.{entity_text, type_text}
 use Rattle.world_text.proofs.Appended.{three_pieces}
 use Rattle.world_text.proofs.Places.{line_there}
 use Rattle.world_text.proofs.RowText.{row_line-is}

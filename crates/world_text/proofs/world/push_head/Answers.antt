@@ -7,5 +7,5 @@ pub returns : goal.returns
 unfolding world_line
 returns c =
     three_pieces c.args.line.now.items (count_text (codes "world frames=") c.args.frames) (count_text (codes " entities=") c.args.entities) (codes "\n")
-    c.push_key_count.new.line.items c.push_key_count-2.new.line.items c.push.new.self.items
-    (rw c.from.ensures at c.in_ok-push_key_count.ensures) (rw c.from-2.ensures at c.in_ok-push_key_count-2.ensures) c.in_ok-push.ensures.items
+    c.push_key_number.new.line.items c.push_key_number-2.new.line.items c.push.new.self.items
+    c.in_ok-push_key_number.ensures c.in_ok-push_key_number-2.ensures c.in_ok-push.ensures.items
