@@ -1,0 +1,5 @@
+pub mod Appended
+pub mod Elements
+pub mod RowText
+pub mod Places
+pub mod WorldLines
