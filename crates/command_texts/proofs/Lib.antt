@@ -1,0 +1,3 @@
+pub mod Suiting
+pub mod Alone
+pub mod Parts
