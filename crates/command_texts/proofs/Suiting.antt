@@ -1,5 +1,5 @@
 -- A command suits the types if its change does, for it doesn't count which entities its references name.
-use Rattle.std.proofs.Common.{◌≡◌, ℕ, zero, suc, ◌&&◌, Bool, true, false, List, [], ◌∷◌, map, length, take, drop, Option, Some, None, option_map, unwrap_or, refl, sym, ap, ap₂, ◌∙◌, subst}
+use Rattle.std.proofs.Common.{◌≡◌, ℕ, zero, suc, ◌&&◌, Bool, true, false, if◌then◌else◌, inl, inr, List, [], ◌∷◌, map, length, take, drop, Option, Some, None, option_map, unwrap_or, refl, sym, ap, ap₂, ◌∙◌, subst}
 use Rattle.ent_types.specs.declared.entity.Entity.{Entity}
 use Rattle.ent_types.specs.declared.kinds.FieldKind.{FieldKind}
 use Rattle.ent_types.specs.declared.kinds.FieldKind.TheVariants.{I32, I64, Ref as RefKind}
@@ -20,8 +20,10 @@ use Rattle.world_model.specs.Operations.{Act, act_map, On}
 use Rattle.world_model.specs.Operations as world
 use Rattle.world_laws.proofs.Members.{in_map, map_in}
 use Rattle.run_model.specs.Commands.{GivenValue, ActsOn}
+use Rattle.run_model.specs.Commands as model
 use Rattle.run_model.specs.Playback.{value_given, operation_of}
 use Rattle.run_laws.specs.Suits.{OperationSuits}
+use Rattle.run_laws.specs.Suits as texts
 use Rattle.command_record.specs.declared.command.Target.{Target}
 use Rattle.command_record.specs.declared.command.Target.TheVariants.{Live, Placeholder}
 use Rattle.command_record.specs.declared.command.CmdValue.{CmdValue}
@@ -29,8 +31,12 @@ use Rattle.command_record.specs.declared.command.CmdValue.TheVariants.{Int, Ref}
 use Rattle.command_record.specs.declared.command.CmdPart.{CmdPart}
 use Rattle.command_record.specs.declared.command.Command.{Command}
 use Rattle.command_record.specs.declared.command.Command.TheVariants.{Create, Destroy, Add, Remove, Set, SetShared, SetEnabled, Instantiate, Append, Clear}
+use Rattle.command_record.specs.declared.chain.Entry.{Entry}
 use Rattle.command_record.specs.Entries.{target_of, value_of, part_of, change_of}
-use Rattle.playback.specs.Asked.{value_for, part_for, on_target, operation_for, CommandSuits}
+use Rattle.expr_eval.specs.Values.{OwnRow, OtherRows}
+use Rattle.expr_trees.specs.declared.tree.CommandText.{CommandText}
+use Rattle.run_laws.proofs.EntriesSuit.{deed_suits}
+use Rattle.playback.specs.Asked.{value_for, part_for, on_target, operation_for, CommandSuits, AllSuit}
 
 -- ---- values that differ only in the entities that they name
 
@@ -148,3 +154,13 @@ module _ (registry : List TypeInfo) (made : ℕ → ℕ → Option Entity) where
 pub command_suits : (registry : List TypeInfo) (c : Command) → ((made : ℕ → Option Entity) → OperationSuits registry (operation_of made (change_of c)))
     → CommandSuits registry c
 command_suits registry c h made = asked_suits registry made c (h always)
+
+pub text_suits : (registry : List TypeInfo) (own : OwnRow) (others : OtherRows) (act : CommandText) (c : Command)
+    → texts.CommandSuits registry act → change_of c ≡ model.change_of registry own others act → CommandSuits registry c
+text_suits registry own others act c suits is =
+    command_suits registry c (λ made. subst (λ change. OperationSuits registry (operation_of made change)) (sym is) (deed_suits registry own others made act suits))
+
+pub alone_suits : (registry : List TypeInfo) (own : OwnRow) (others : OtherRows) (act : CommandText) (x : Entry)
+    → texts.CommandSuits registry act → change_of x.command ≡ model.change_of registry own others act → AllSuit registry (x ∷ [])
+alone_suits registry own others act x suits is y (inl e) = subst (λ (z : Entry). CommandSuits registry z.command) (sym e) (text_suits registry own others act x.command suits is)
+alone_suits registry own others act x suits is y (inr i) = absurd i
