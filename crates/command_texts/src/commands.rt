@@ -9,6 +9,7 @@ ghost use Rattle.expr_trees.specs.declared.tree.PartExpr.{PartExpr};
 ghost use Rattle.run_model.specs.Commands.{Known, given_of, part_given};
 ghost use Rattle.run_model.specs.Commands.{target_of as target_defined, change_of as change_defined};
 ghost use Rattle.run_laws.specs.Runnable.{CommandReads, PartReads, ValueReads};
+ghost use Rattle.command_record.specs.declared.command.CmdPart.{CmdPart};
 ghost use Rattle.command_record.specs.Entries.{change_of, part_of, target_of, value_of, OwnCommand, OwnPart, OwnTarget, OwnValue};
 
 use command_record::{CmdPart, CmdParts, CmdValue, CmdValues, Command, Target};
@@ -23,13 +24,10 @@ fn target<R: RowReader>(row: &R, place: u32, reference: &RefExpr) -> Target
     ensures value { target_of result ≡ target_defined (R.own_row row.now) reference.now }
     ensures own { OwnTarget place result }
 {
-    match *reference {
-        RefExpr::Made(number) => Target::Placeholder { row: place, number },
-        RefExpr::Null => Target::Live(Entity::NULL),
-        RefExpr::Me => Target::Live(eval_ref(reference, row)),
-        RefExpr::Own { .. } => Target::Live(eval_ref(reference, row)),
-        RefExpr::Entity(e) => Target::Live(e),
+    if let RefExpr::Made(number) = *reference {
+        return Target::Placeholder { row: place, number };
     }
+    Target::Live(eval_ref(reference, row))
 }
 
 /// Returns what a field of this kind keeps of a value.
@@ -121,7 +119,7 @@ fn parts<R: RowReader, L: Lookup>(
 ) -> Result<CmdParts, Memory>
     requires { (p : PartExpr) → In p texts.now → PartReads (record { own = R.has_field row.now; others = L.can_read others.now }) p }
     ensures value { IfOk result (λ ps. map part_of ps ≡ map (part_given registry.now (R.own_row row.now) (others_of (L.found others.now))) texts.now) }
-    ensures own { IfOk result (λ ps. OwnCommand place (Create ps)) }
+    ensures own { IfOk result (λ ps. (p : CmdPart) → In p ps → OwnPart place p) }
 {
     let mut made = CmdParts::new(alloc);
     for text in texts {
