@@ -1,4 +1,4 @@
--- The values of a part, one after another.
+-- The values of a part, and the parts of a row, one after another.
 use Rattle.std.proofs.Common.{◌≡◌, ℕ, zero, suc, ◌+◌, ◌%◌, ◌<◌, inl, inr, List, [], ◌∷◌, ◌++◌, map, length, get_or, take, drop, drop-cons, add-one, refl, sym, ap, ap₂, ◌∙◌, subst, append_assoc, arith}
 use Rattle.std.proofs.lemmas.List.{take_more}
 use Rattle.ent_types.specs.declared.kinds.FieldKind.{FieldKind}
@@ -8,9 +8,11 @@ use Rattle.world_model.specs.Members.{In}
 use Rattle.world_laws.proofs.Members.{map_append}
 use Rattle.expr_eval.specs.Values.{OwnRow, OtherRows}
 use Rattle.expr_trees.specs.declared.tree.ValueExpr.{ValueExpr}
-use Rattle.run_model.specs.Commands.{GivenValue, given_of, givens_from}
+use Rattle.expr_trees.specs.declared.tree.PartExpr.{PartExpr}
+use Rattle.run_model.specs.Commands.{GivenValue, given_of, givens_from, part_given}
 use Rattle.command_record.specs.declared.command.CmdValue.{CmdValue}
-use Rattle.command_record.specs.Entries.{value_of, OwnValue}
+use Rattle.command_record.specs.declared.command.CmdPart.{CmdPart}
+use Rattle.command_record.specs.Entries.{value_of, part_of, OwnValue, OwnPart}
 
 -- each member of a list has a property, and so has one more
 pub all_more : {X : Type 0} (P : X → Type 0) (xs : List X) (x : X) → ((y : X) → In y xs → P y) → P x → (y : X) → In y (xs ++ x ∷ []) → P y
@@ -24,14 +26,6 @@ pub all_at : {X : Type 0} (P : X → Type 0) (xs : List X) → ((x : X) → In x
 all_at P [] all i x less is = absurd (omega (arith, less))
 all_at P (y ∷ ys) all zero x less is = subst P (sym is) (all y (inl refl))
 all_at P (y ∷ ys) all (suc i) x less is = all_at P ys (λ z j. all z (inr j)) i x (omega (arith, less)) is
-
--- one more element on each side
-pub map_more : {X Y Z : Type 0} (f : X → Z) (g : Y → Z) (xs : List X) (x : X) (ys : List Y) (i : ℕ) (y : Y) → i < length ys → y ≡ get_or ys i y
-    → f x ≡ g y → map f xs ≡ map g (take i ys) → map f (xs ++ x ∷ []) ≡ map g (take (i + 1) ys)
-map_more f g xs x ys i y less here same so_far =
-    map_append f xs (x ∷ [])
-    ∙ (ap₂ (λ us z. us ++ z ∷ []) so_far (same ∙ ap g here)
-    ∙ (sym (map_append g (take i ys) (get_or ys i y ∷ [])) ∙ ap (map g) (sym (take_more ys i y less))))
 
 module _ (registry : List TypeInfo) (own : OwnRow) (others : OtherRows) (place : ℕ) (t : ℕ) where
   -- With the values of the texts that are left, from this place on, they are those of all texts. Their placeholders are of the row.
@@ -60,3 +54,21 @@ module _ (registry : List TypeInfo) (own : OwnRow) (others : OtherRows) (place :
       (subst (λ rest. AreSoFar made at rest texts)
       (drop-cons texts at text (subst (λ (ts : List ValueExpr). at < length ts) same less)
       ∙ ap₂ (λ u n. u ∷ drop n texts) (sym (subst (λ (ts : List ValueExpr). text ≡ get_or ts at text) same here)) (sym (add-one at))) so_far))
+
+module _ (registry : List TypeInfo) (own : OwnRow) (others : OtherRows) (place : ℕ) where
+  -- These are the parts of some texts. Their placeholders are of the row.
+  pub record AreParts (made : List CmdPart) (texts : List PartExpr) : Type 0 where
+    pub parts : map part_of made ≡ map (part_given registry own others) texts
+    pub of_row : (p : CmdPart) → In p made → OwnPart place p
+
+  pub part_more : (texts : List PartExpr) (made pushed : List CmdPart) (i : ℕ) (text : PartExpr) (p : CmdPart)
+      → i < length texts → text ≡ get_or texts i text → pushed ≡ made ++ p ∷ []
+      → part_of p ≡ part_given registry own others text → OwnPart place p → AreParts made (take i texts) → AreParts pushed (take (i + 1) texts)
+  part_more texts made pushed i text p less here more is mine so_far =
+      subst (λ ps. AreParts ps (take (i + 1) texts)) (sym more) (record {
+        parts = map_append part_of made (p ∷ [])
+            ∙ (ap₂ (λ gs g. gs ++ g ∷ []) so_far.parts (is ∙ ap (part_given registry own others) here)
+            ∙ (sym (map_append (part_given registry own others) (take i texts) (get_or texts i text ∷ []))
+            ∙ ap (map (part_given registry own others)) (sym (take_more texts i text less))));
+        of_row = all_more (OwnPart place) made p so_far.of_row mine;
+      })
