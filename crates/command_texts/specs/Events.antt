@@ -1,5 +1,5 @@
 -- The operation of an event, as the run has it: its text sees no row, and nothing was made before it.
-use Rattle.std.specs.Prelude.{◌≡◌, ℕ, List, map, Option}
+use Rattle.std.specs.Prelude.{ℕ, List, map, Option}
 use Rattle.ent_types.specs.declared.type_info.TypeInfo.{TypeInfo}
 use Rattle.world_model.specs.Operations.{Operation}
 use Rattle.expr_trees.specs.declared.tree.CommandText.{CommandText}

@@ -8,4 +8,6 @@ mod commands;
 mod laws;
 
 pub use commands::command_of;
-pub use laws::{commands_of_events_play_as_defined, commands_of_events_suit, commands_of_texts_suit};
+pub use laws::{
+    commands_of_events_play_as_defined, commands_of_events_suit, commands_of_texts_suit,
+};

@@ -1,6 +1,6 @@
 use Rattle.expr_eval.specs.Rows.{others_of}
 use Rattle.run_laws.specs.Runnable.{PartReads}
-use Rattle.command_texts.proofs.Parts.{AreParts, all_at, part_more}
+use Rattle.command_texts.proofs.Parts.{all_at, part_more}
 use Rattle.command_texts.proofs.commands.parts.Goals as goal
 
 pub part-requires : goal.part-requires
