@@ -23,7 +23,6 @@ use structural_ops::World;
 /// Returns the bytes that a row takes in the column of each type.
 fn sizes_of(registry: &Registry, types: &TypeSet) -> ArrayVec<u32, MAX_COLUMNS>
     ensures value { result.items ≡ map (column_size_at registry.now) types.now }
-    ensures few { length result.items ≤ 256 }
     ensures small { All (λ size. size ≤ 512) result.items }
 {
     let mut sizes = ArrayVec::new();
@@ -34,7 +33,6 @@ fn sizes_of(registry: &Registry, types: &TypeSet) -> ArrayVec<u32, MAX_COLUMNS>
 }
 
 /// Appends a type, and where its column begins, if it has one.
-#[tactic(auto, unfolding(crate::specs::Layout::column_text))]
 fn push_column(
     line: &mut Vec<u8>,
     registry: &Registry,
@@ -85,7 +83,6 @@ fn push_types(line: &mut Vec<u8>, registry: &Registry, types: &TypeSet) -> Resul
 }
 
 /// Appends the line of a block, which is at place `k` in block order.
-#[tactic(auto, unfolding(crate::specs::Layout::block_line))]
 fn push_block(
     line: &mut Vec<u8>,
     registry: &Registry,
@@ -105,7 +102,6 @@ fn push_block(
 }
 
 /// Appends the line of the number of blocks.
-#[tactic(auto, unfolding(crate::specs::Layout::layout_line))]
 fn push_head(line: &mut Vec<u8>, blocks: u32) -> Result<(), AllocError>
     ensures { OnOk result (line.new.items ≡ line.old.items ++ layout_line blocks) }
 {

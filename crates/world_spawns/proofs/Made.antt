@@ -1,0 +1,85 @@
+-- A row of a spawn: it is made, and some of its types are disabled.
+use Rattle.std.proofs.Common.{◌≡◌, ℕ, ◌∙◌, nat_eq, Bool, true, false, cond, sym, ap, ap₂, refl, subst, true≢false, List, [], ◌∷◌, map, Result, Ok, Err}
+use Rattle.std.specs.Prelude.{fold}
+use Rattle.ent_types.specs.declared.entity.Entity.{Entity}
+use Rattle.ent_types.specs.declared.skip.Skip.{Skip}
+use Rattle.ent_types.specs.declared.type_info.TypeInfo.{TypeInfo}
+use Rattle.ent_types.specs.declared.value.Value.{Value}
+use Rattle.ent_types.specs.Fitting.{null_entity}
+use Rattle.expr_trees.specs.declared.tree.CommandText.TheVariants as texts
+use Rattle.expr_trees.specs.declared.tree.PartExpr.{PartExpr}
+use Rattle.scenario_record.specs.declared.record.SpawnEntry.{SpawnEntry}
+use Rattle.world_model.specs.Members.{In}
+use Rattle.world_model.specs.Part.{PartOf, by_type, part_map, part_type}
+use Rattle.world_model.specs.World.{World, capacity}
+use Rattle.world_model.specs.Ids.{next_id, room}
+use Rattle.world_model.specs.Lawful.{Suits}
+use Rattle.world_model.specs.Operations.{Answer, Create, Made, Makes, On, Reply, SetEnabled, Skipped, Skips, apply, cells_of, home_of, made, operate}
+use Rattle.world_model.specs.Scenes.{all_off, switched_off}
+use Rattle.world_laws.proofs.Built.{operate_registry}
+use Rattle.expr_eval.specs.Values.{OwnRow}
+use Rattle.run_model.specs.Commands.{part_given}
+use Rattle.run_model.specs.Job.{no_row}
+use Rattle.run_model.specs.Playback.{value_given}
+use Rattle.run_model.specs.Tasks.{after_row_spawned, no_others, nothing_made, spawn_parts}
+use Rattle.run_laws.specs.Runnable.{SpawnRuns, as_part, types_of_parts}
+use Rattle.run_laws.specs.Suits.{PartSuits}
+use Rattle.run_laws.proofs.EntriesSuit.{deed_suits}
+use Rattle.structural_ops.specs.declared.fault.OpFault.{OpFault}
+use Rattle.structural_ops.specs.declared.fault.OpFault.TheVariants as fault
+use Rattle.structural_ops.specs.Worlds.{Becomes, Gives, GivesAlways, WorldState, after}
+use Rattle.world_spawns.specs.Parts.{part_for}
+use Rattle.world_spawns.proofs.Room.{room_all_off, room_made}
+use Rattle.world_spawns.proofs.Types.{same_order}
+
+-- ---- what a call leaves
+
+-- a type is disabled, or the call is skipped as the definition says
+pub off_is : (old new : WorldState) (e : Entity) (t : ℕ) (r : Result (Unit {0}) Skip) → GivesAlways old new (On e (SetEnabled t false)) r
+    → new.world ≡ switched_off (capacity old.world.registry) e old.world t
+off_is old new e t (Ok u) gives = sym (ap (λ (a : Answer). a.world) gives.0)
+off_is old new e t (Err cause) gives = ap (λ (w : WorldState). w.world) gives.1 ∙ sym (ap (λ (a : Answer). a.world) gives.0)
+
+pub registry_off : (capacity : List ℕ → ℕ) (e : Entity) (w : World) (t : ℕ) → (switched_off capacity e w t).registry ≡ w.registry
+registry_off capacity e w t = operate_registry capacity w (On e (SetEnabled t false))
+
+pub registry_all_off : (capacity : List ℕ → ℕ) (e : Entity) (types : List ℕ) (w : World) → (fold (switched_off capacity e) w types).registry ≡ w.registry
+registry_all_off capacity e [] w = refl
+registry_all_off capacity e (t ∷ ts) w = registry_all_off capacity e ts (switched_off capacity e w t) ∙ registry_off capacity e w t
+
+off_of_made : (capacity : List ℕ → ℕ) (types : List ℕ) (a : Answer) (e : Entity) → a.reply ≡ Made e → all_off capacity types a ≡ fold (switched_off capacity e) a.world types
+off_of_made capacity types a e is = ap (λ (r : Reply). all_off capacity types (record { world = a.world; reply = r })) is
+
+-- ---- the parts of a row
+
+module _ (registry : List TypeInfo) (own : OwnRow) where
+  parts_twice : (ps : List PartExpr) → map (part_map (value_given nothing_made)) (map (part_given registry own no_others) ps) ≡ map (part_for registry own) ps
+  parts_twice [] = refl
+  parts_twice (p ∷ ps) = ap (λ qs. part_for registry own p ∷ qs) (parts_twice ps)
+
+  types_for : (ps : List PartExpr) → map part_type (map (part_for registry own) ps) ≡ map part_type (map as_part ps)
+  types_for [] = refl
+  types_for (p ∷ ps) = ap (λ ts. p.ty.0 ∷ ts) (types_for ps)
+
+  pub types_are : (ps : List PartExpr) → map part_type (by_type (map (part_for registry own) ps)) ≡ types_of_parts ps
+  types_are ps = same_order (map (part_for registry own) ps) (map as_part ps) (types_for ps)
+
+module _ (registry : List TypeInfo) (s : SpawnEntry) (runs : SpawnRuns registry s) (n : ℕ) where
+  pub spawn_suits : Suits registry (Create (map (part_for registry (no_row n 0)) s.parts))
+  spawn_suits =
+      subst (λ ps. Suits registry (Create ps)) (parts_twice registry (no_row n 0) s.parts)
+      (deed_suits registry (no_row n 0) no_others nothing_made (texts.Create [] s.parts) (runs.parts, runs.once))
+
+  pub spawn_small : nat_eq (capacity registry (map part_type (by_type (map (part_for registry (no_row n 0)) s.parts)))) 0 ≡ false
+  spawn_small = ap (λ types. nat_eq (capacity registry types) 0) (types_are registry (no_row n 0) s.parts) ∙ runs.room
+
+-- ---- a row is made
+
+module _ (capacity : List ℕ → ℕ) (w : World) (parts : List (PartOf Value)) (small : nat_eq (capacity (map part_type (by_type parts))) 0 ≡ false) (some : nat_eq (room w) 0 ≡ false) where
+  abbrev made_of : World
+  made_of = made capacity (home_of w.registry (by_type parts)) (cells_of w.registry (by_type parts)) w
+
+  pub create_is : operate capacity w (Create parts) ≡ record { world = made_of; reply = Made (next_id w) }
+  unfolding operate
+  create_is =
+      ap₂ (λ b c. apply capacity w null_entity (cond b (Skips _) (cond c (Skips _) (Makes (home_of w.registry (by_type parts)) (cells_of w.registry (by_type parts)))))) small some
