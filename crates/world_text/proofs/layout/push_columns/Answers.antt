@@ -12,7 +12,7 @@ loop-ty-init c =
     record {
       text = ap (λ ts. c.args.line.now.items ++ flat_map (column_text c.args.registry.now) (zip ts c.args.places.now)) is;
       known = λ t i. c.requires.known t (subst (In t) is i);
-      count = ap length is ∙ sym c.requires.places;
+      count = (let same : length c.into_iter-ty-iterator.result ≡ length c.args.types.now = ap length is in let places = c.requires.places in omega arith);
     }
 
 pub push_column-requires : goal.push_column-requires

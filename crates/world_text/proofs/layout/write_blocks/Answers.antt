@@ -1,4 +1,4 @@
-use Rattle.std.proofs.Common.{◌≡◌, ◌+◌, ◌≤◌, ◌∙◌, ℕ, List, arith, inl, inr, ap, length, refl, sym, subst}
+use Rattle.std.proofs.Common.{◌≡◌, ◌+◌, ◌∙◌, ℕ, List, arith, inl, inr, ap, length, refl, sym, subst}
 use Rattle.std.proofs.lemmas.List.{length-map}
 use Rattle.ent_types.specs.declared.type_info.TypeInfo.{TypeInfo}
 use Rattle.ent_io.specs.Text.{AppendsPrefix, Leaves, appended}
@@ -6,7 +6,6 @@ use Rattle.ent_io.proofs.Appends.{leaves_all, leaves_rest, prefix_left_within}
 use Rattle.ent_io.proofs.Exits.{exit_writes}
 use Rattle.world_model.specs.Members.{In}
 use Rattle.chunk_block.specs.Blocks.{BlockState}
-use Rattle.archetype_store.specs.declared.numbers.TheConstants.{MOST_NUMBERS}
 use Rattle.archetype_store.specs.Stores.{Numbered, numbered_blocks}
 use Rattle.world_text.specs.Layout.{block_line, block_lines}
 use Rattle.world_text.specs.Listed.{IsListed}
@@ -24,7 +23,10 @@ loop-block-init g c =
       text = subst (λ left. Leaves whole left text text) (sym (ap (lines_from w.world.registry 0) is ∙ lines_of_world w s c.store-store.ensures)) (leaves_all whole text);
       faults = refl;
       listed = λ e i. all_listed w s c.store-store.ensures c.is_lawful.ensures e (subst (In e) is i);
-      count = subst (λ n. n ≤ MOST_NUMBERS) (sym (ap length is ∙ length-map s.blocks (λ (b : Numbered). (let p : ℕ × BlockState = (b.number, b.block) in p)))) c.is_sound.ensures.few;
+      count = (
+        let same : length c.into_iter-block-iterator.result ≡ length s.blocks = ap length is ∙ length-map s.blocks (λ (b : Numbered). (let p : ℕ × BlockState = (b.number, b.block) in p)) in
+        let few = c.is_sound.ensures.few in
+        omega arith);
     }
 
 pub write_block-requires : goal.write_block-requires
