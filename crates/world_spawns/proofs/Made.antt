@@ -1,8 +1,9 @@
 -- A row of a spawn: it is made, and some of its types are disabled.
-use Rattle.std.proofs.Common.{◌≡◌, ℕ, ◌∙◌, nat_eq, Bool, true, false, cond, sym, ap, ap₂, refl, subst, true≢false, List, [], ◌∷◌, map, Result, Ok, Err}
+use Rattle.std.proofs.Common.{◌≡◌, ℕ, zero, suc, ◌+◌, ◌≤◌, ◌∙◌, arith, nat_eq, Bool, true, false, cond, sym, ap, ap₂, refl, subst, true≢false, List, [], ◌∷◌, map, Result, Ok, Err}
 use Rattle.std.specs.Prelude.{fold}
 use Rattle.ent_types.specs.declared.entity.Entity.{Entity}
 use Rattle.ent_types.specs.declared.skip.Skip.{Skip}
+use Rattle.ent_types.specs.declared.skip.Skip.TheVariants.{Full, TooLarge}
 use Rattle.ent_types.specs.declared.type_info.TypeInfo.{TypeInfo}
 use Rattle.ent_types.specs.declared.value.Value.{Value}
 use Rattle.ent_types.specs.Fitting.{null_entity}
@@ -82,4 +83,46 @@ module _ (capacity : List ℕ → ℕ) (w : World) (parts : List (PartOf Value))
   pub create_is : operate capacity w (Create parts) ≡ record { world = made_of; reply = Made (next_id w) }
   unfolding operate
   create_is =
-      ap₂ (λ b c. apply capacity w null_entity (cond b (Skips _) (cond c (Skips _) (Makes (home_of w.registry (by_type parts)) (cells_of w.registry (by_type parts)))))) small some
+      ap₂ (λ b c. apply capacity w null_entity (cond b (Skips TooLarge) (cond c (Skips Full) (Makes (home_of w.registry (by_type parts)) (cells_of w.registry (by_type parts)))))) small some
+
+-- ---- the row of a spawn
+
+module _ (old : WorldState) (s : SpawnEntry) (runs : SpawnRuns old.world.registry s) (some : 1 ≤ room old.world) (n : ℕ) where
+  abbrev parts : List (PartOf Value)
+  parts = map (part_for old.world.registry (no_row n 0)) s.parts
+
+  open_ : nat_eq (room old.world) 0 ≡ false
+  open_ = by (room old.world) some
+    where
+      by : (k : ℕ) → 1 ≤ k → nat_eq k 0 ≡ false
+      by zero h = absurd (omega arith)
+      by (suc k) h = refl
+
+  abbrev answer : Answer
+  answer = after old (Create parts)
+
+  answer_is : answer ≡ record { world = made_of (capacity old.world.registry) old.world parts (spawn_small old.world.registry s runs n) open_; reply = Made (next_id old.world) }
+  answer_is = create_is (capacity old.world.registry) old.world parts (spawn_small old.world.registry s runs n) open_
+
+  -- a row that is made leaves room for one row fewer
+  answer_room : room answer.world + 1 ≡ room old.world
+  answer_room =
+      ap (λ (a : Answer). room a.world + 1) answer_is
+      ∙ room_made (capacity old.world.registry) (home_of old.world.registry (by_type parts)) (cells_of old.world.registry (by_type parts)) old.world some
+
+  -- it isn't skipped
+  pub not_skipped : (cause : Skip) → answer ≡ record { world = old.world; reply = Skipped cause } → ⊥
+  not_skipped cause is = let no_way : Made (next_id old.world) ≡ Skipped cause = ap (λ (a : Answer). a.reply) (sym answer_is ∙ is) in cc
+
+  module _ (e : Entity) (made_it : answer.reply ≡ Made e) (mid : World) (is : mid ≡ answer.world) where
+    pub mid_registry : mid.registry ≡ old.world.registry
+    mid_registry = ap (λ (w : World). w.registry) is ∙ operate_registry (capacity old.world.registry) old.world (Create parts)
+
+    pub row_world : fold (switched_off (capacity old.world.registry) e) mid s.disabled ≡ after_row_spawned (capacity old.world.registry) s old.world n
+    row_world = ap (λ w. fold (switched_off (capacity old.world.registry) e) w s.disabled) is ∙ sym (off_of_made (capacity old.world.registry) s.disabled answer e made_it)
+
+    pub row_registry : (fold (switched_off (capacity old.world.registry) e) mid s.disabled).registry ≡ old.world.registry
+    row_registry = registry_all_off (capacity old.world.registry) e s.disabled mid ∙ mid_registry
+
+    pub row_room : room (fold (switched_off (capacity old.world.registry) e) mid s.disabled) + 1 ≡ room old.world
+    row_room = ap (λ n. n + 1) (room_all_off (capacity old.world.registry) e s.disabled mid ∙ ap room is) ∙ answer_room

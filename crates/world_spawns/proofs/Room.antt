@@ -1,9 +1,10 @@
 -- How many more entities can be made after a row of a spawn: one fewer.
 use Rattle.std.proofs.Common.{◌≡◌, ℕ, zero, suc, ◌+◌, ◌-◌, ◌≤◌, ◌∙◌, nat_le, Bool, true, false, cond, sym, ap, ap₂, refl, subst, arith, List, [], ◌∷◌, length, map, Option, Some, None}
-use Rattle.std.specs.Prelude.{fold, min}
+use Rattle.std.specs.Prelude.{fold, min, not}
 use Rattle.std.proofs.lemmas.List.{length-map}
 use Rattle.ent_types.specs.declared.entity.Entity.{Entity}
 use Rattle.ent_types.specs.declared.limits.TheConstants.{MOST_ENTITIES, MOST_INDEXES}
+use Rattle.ent_types.specs.declared.skip.Skip.TheVariants.{NoComponent, NotEnableable}
 use Rattle.ent_types.specs.TypeLookups.{is_enableable_at}
 use Rattle.ent_types.specs.TypeSets.{has_type}
 use Rattle.world_model.specs.Row.{Cell, Row}
@@ -61,14 +62,14 @@ module _ (capacity : List ℕ → ℕ) (e : Entity) where
   unfolding operate
   room_off w t = by (found e w.blocks)
     where
-      chosen : (x : Found) (a b : Bool) → room (apply capacity w e (cond a (Skips _) (cond b (Skips _) (Writes (t ∷ []) (switched t false x.row.cells) x.row.dying)))).world ≡ room w
+      chosen : (x : Found) (a b : Bool) → room (apply capacity w e (cond a (Skips NotEnableable) (cond b (Skips NoComponent) (Writes (t ∷ []) (switched t false x.row.cells) x.row.dying)))).world ≡ room w
       chosen x true b = refl
       chosen x false true = refl
       chosen x false false = room_applied w (t ∷ []) (switched t false x.row.cells) x.row.dying
 
       by : (o : Option Found) → room (acted capacity w e (SetEnabled t false) o).world ≡ room w
       by None = refl
-      by (Some x) = chosen x _ _
+      by (Some x) = chosen x (not (is_enableable_at w.registry t)) (not (has_type x.home.types t))
 
   pub room_all_off : (types : List ℕ) (w : World) → room (fold (switched_off capacity e) w types) ≡ room w
   room_all_off [] w = refl

@@ -14,13 +14,14 @@ in_order (t ∷ ts) = with_number t (in_order ts)
 module _ {V : Type 0} where
   one_with : (p : PartOf V) (ps : List (PartOf V)) → map part_type (with_typed part_type p ps) ≡ with_number p.type_id (map part_type ps)
   one_with p [] = refl
-  one_with p (q ∷ qs) = by (nat_lt p.type_id q.type_id) (nat_eq q.type_id p.type_id)
+  one_with p (q ∷ qs) = by (nat_lt p.type_id q.type_id) (nat_eq q.type_id p.type_id) (one_with p qs)
     where
-      by : (b c : Bool) → map part_type (cond b (p ∷ q ∷ qs) (cond c (p ∷ qs) (q ∷ with_typed part_type p qs)))
+      by : (b c : Bool) → map part_type (with_typed part_type p qs) ≡ with_number p.type_id (map part_type qs)
+          → map part_type (cond b (p ∷ q ∷ qs) (cond c (p ∷ qs) (q ∷ with_typed part_type p qs)))
           ≡ cond b (p.type_id ∷ q.type_id ∷ map part_type qs) (cond c (p.type_id ∷ map part_type qs) (q.type_id ∷ with_number p.type_id (map part_type qs)))
-      by true c = refl
-      by false true = refl
-      by false false = ap (λ ts. q.type_id ∷ ts) (one_with p qs)
+      by true c rest = refl
+      by false true rest = refl
+      by false false rest = ap (λ ts. q.type_id ∷ ts) rest
 
   all_in_order : (ps : List (PartOf V)) → map part_type (by_type ps) ≡ in_order (map part_type ps)
   all_in_order [] = refl
