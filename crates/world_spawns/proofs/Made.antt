@@ -1,6 +1,8 @@
 -- A row of a spawn: it is made, and some of its types are disabled.
-use Rattle.std.proofs.Common.{◌≡◌, ℕ, zero, suc, ◌+◌, ◌≤◌, ◌∙◌, arith, nat_eq, Bool, true, false, cond, sym, ap, ap₂, refl, subst, true≢false, List, [], ◌∷◌, map, Result, Ok, Err}
+use Rattle.std.proofs.Common.{◌≡◌, ℕ, suc, ◌+◌, ◌-◌, ◌≤◌, ◌<◌, ◌∙◌, arith, nat_eq, Bool, true, false, cond, sym, ap, ap₂, refl, subst, true≢false, List, [], ◌∷◌, map, Result, Ok, Err}
 use Rattle.std.specs.Prelude.{fold}
+use Rattle.std.specs.List.{range_with_len}
+use Rattle.std.proofs.lemmas.Bool.{ne_eqb}
 use Rattle.ent_types.specs.declared.entity.Entity.{Entity}
 use Rattle.ent_types.specs.declared.skip.Skip.{Skip}
 use Rattle.ent_types.specs.declared.skip.Skip.TheVariants.{Full, TooLarge}
@@ -9,10 +11,11 @@ use Rattle.ent_types.specs.declared.value.Value.{Value}
 use Rattle.ent_types.specs.Fitting.{null_entity}
 use Rattle.expr_trees.specs.declared.tree.CommandText.TheVariants as texts
 use Rattle.expr_trees.specs.declared.tree.PartExpr.{PartExpr}
+use Rattle.scenario_record.specs.declared.record.Scenario.{Scenario}
 use Rattle.scenario_record.specs.declared.record.SpawnEntry.{SpawnEntry}
 use Rattle.world_model.specs.Members.{In}
 use Rattle.world_model.specs.Part.{PartOf, by_type, part_map, part_type}
-use Rattle.world_model.specs.World.{World, capacity}
+use Rattle.world_model.specs.World.{World, capacity, empty_world}
 use Rattle.world_model.specs.Ids.{next_id, room}
 use Rattle.world_model.specs.Lawful.{Suits}
 use Rattle.world_model.specs.Operations.{Answer, Create, Made, Makes, On, Reply, SetEnabled, Skipped, Skips, apply, cells_of, home_of, made, operate}
@@ -22,7 +25,7 @@ use Rattle.expr_eval.specs.Values.{OwnRow}
 use Rattle.run_model.specs.Commands.{part_given}
 use Rattle.run_model.specs.Job.{no_row}
 use Rattle.run_model.specs.Playback.{value_given}
-use Rattle.run_model.specs.Tasks.{after_row_spawned, no_others, nothing_made, spawn_parts}
+use Rattle.run_model.specs.Tasks.{after_row_spawned, after_spawn, no_others, nothing_made, spawned}
 use Rattle.run_laws.specs.Runnable.{SpawnRuns, as_part, types_of_parts}
 use Rattle.run_laws.specs.Suits.{PartSuits}
 use Rattle.run_laws.proofs.EntriesSuit.{deed_suits}
@@ -92,11 +95,7 @@ module _ (old : WorldState) (s : SpawnEntry) (runs : SpawnRuns old.world.registr
   parts = map (part_for old.world.registry (no_row n 0)) s.parts
 
   open_ : nat_eq (room old.world) 0 ≡ false
-  open_ = by (room old.world) some
-    where
-      by : (k : ℕ) → 1 ≤ k → nat_eq k 0 ≡ false
-      by zero h = absurd (omega arith)
-      by (suc k) h = refl
+  open_ = ne_eqb (room old.world) 0 (λ none. omega (arith, none, some))
 
   abbrev answer : Answer
   answer = after old (Create parts)
@@ -126,3 +125,13 @@ module _ (old : WorldState) (s : SpawnEntry) (runs : SpawnRuns old.world.registr
 
     pub row_room : room (fold (switched_off (capacity old.world.registry) e) mid s.disabled) + 1 ≡ room old.world
     row_room = ap (λ n. n + 1) (room_all_off (capacity old.world.registry) e s.disabled mid ∙ ap room is) ∙ answer_room
+
+-- ---- all rows
+
+-- the numbers of the rows that are left
+pub range_next : (n count : ℕ) → n < count → range_with_len n (count - n) ≡ n ∷ range_with_len (n + 1) (count - (n + 1))
+range_next n count below = ap (range_with_len n) (let more : count - n ≡ suc (count - (n + 1)) = omega arith in more)
+
+pub spawned_is : (capacity : List ℕ → ℕ) (s : Scenario) (moment : ℕ) → spawned capacity s moment ≡ fold (after_spawn capacity) (empty_world s.registry s.first_entity_version moment) s.spawn
+unfolding spawned
+spawned_is capacity s moment = refl

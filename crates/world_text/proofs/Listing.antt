@@ -1,5 +1,5 @@
 -- The lines of the blocks of a world, as a walk over them gives them.
-use Rattle.std.proofs.Common.{ℕ, ◌≡◌, ◌+◌, ◌≤◌, ◌<◌, ◌∙◌, inl, suc, Bool, true, false, cond, sym, ap, refl, subst, append_assoc, append-nil, codes, List, [], ◌∷◌, ◌++◌, length, map, zip, arith}
+use Rattle.std.proofs.Common.{ℕ, ◌≡◌, ◌+◌, ◌≤◌, ◌∙◌, inl, suc, true, false, cond, sym, ap, refl, subst, append_assoc, append-nil, codes, List, [], ◌∷◌, ◌++◌, length, zip, arith}
 use Rattle.std.specs.Fmt.{decimal}
 use Rattle.std.specs.List.{flat_map}
 use Rattle.std.proofs.lemmas.List.{length-map}
@@ -10,7 +10,7 @@ use Rattle.ent_types.specs.Registries.{type_at}
 use Rattle.ent_types.specs.TypeLookups.{has_column_at}
 use Rattle.world_model.specs.Members.{In}
 use Rattle.world_model.specs.Row.{Row}
-use Rattle.world_model.specs.World.{Block, World, capacity}
+use Rattle.world_model.specs.World.{World, capacity}
 use Rattle.world_model.specs.Found.{Found, placed}
 use Rattle.world_model.specs.Versions.{IsLawfulCode}
 use Rattle.world_laws.proofs.Members.{in_map, map_in}
@@ -59,7 +59,7 @@ pub block_is : (registry : List TypeInfo) (k : ℕ) (types : List ℕ) (rows : �
 unfolding block_line word_text
 block_is registry k types rows a b c d e f g place count most ids columns end =
     let rest = five_pieces b (codes " rows=" ++ decimal rows) (codes " capacity=" ++ decimal (capacity registry types)) (codes " ids@64") (flat_map (column_text registry) (zip types (places_of registry types))) (codes "\n")
-        c d e f g count most ids columns end in
+    c d e f g count most ids columns end in
     two_pieces a (codes "block " ++ decimal k) _ b g place rest
     ∙ ap (λ (text : List ℕ). a ++ text)
     (append_assoc (codes "block ") (decimal k) _

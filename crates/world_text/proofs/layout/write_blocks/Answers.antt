@@ -24,9 +24,9 @@ loop-block-init g c =
       faults = refl;
       listed = λ e i. all_listed w s c.store-store.ensures c.is_lawful.ensures e (subst (In e) is i);
       count = (
-        let same : length c.into_iter-block-iterator.result ≡ length s.blocks = ap length is ∙ length-map s.blocks (λ (b : Numbered). (let p : ℕ × BlockState = (b.number, b.block) in p)) in
-        let few = c.is_sound.ensures.few in
-        omega arith);
+          let same : length c.into_iter-block-iterator.result ≡ length s.blocks = ap length is ∙ length-map s.blocks (λ (b : Numbered). (let p : ℕ × BlockState = (b.number, b.block) in p)) in
+          let few = c.is_sound.ensures.few in
+          omega arith);
     }
 
 pub write_block-requires : goal.write_block-requires

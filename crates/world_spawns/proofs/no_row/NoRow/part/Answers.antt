@@ -15,7 +15,7 @@ value-requires-clause-kind c =
     let fields = fields_at c.args.registry.now c.args.from.now.ty.0 in
     let kinds : AreOfKinds fields c.as_slice-text-items.result.now = subst (AreOfKinds fields) (sym c.as_slice-text-items.ensures) c.requires.suits.values in
     subst (λ (v : ValueExpr). IsOfKind c.field_kind-kind.result v) (sym c.text-item.is)
-    (subst (λ kind. IsOfKind kind _) (sym c.field_kind-kind.ensures)
+    (subst (λ kind. IsOfKind kind (get_or c.as_slice-text-items.result.now c.loop-at.at text)) (sym c.field_kind-kind.ensures)
     (kind_there (record { name = []; kind = I32 }) text fields c.as_slice-text-items.result.now kinds c.loop-at.at c.loop-at-test.true))
 
 pub value-requires-clause-reads : goal.value-requires-clause-reads
