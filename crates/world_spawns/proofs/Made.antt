@@ -14,7 +14,8 @@ use Rattle.expr_trees.specs.declared.tree.PartExpr.{PartExpr}
 use Rattle.scenario_record.specs.declared.record.Scenario.{Scenario}
 use Rattle.scenario_record.specs.declared.record.SpawnEntry.{SpawnEntry}
 use Rattle.world_model.specs.Members.{In}
-use Rattle.world_model.specs.Part.{PartOf, by_type, part_map, part_type}
+use Rattle.ent_types.specs.declared.value.Part.{Part}
+use Rattle.world_model.specs.Part.{PartOf, by_type, part_map, part_of as seen, part_type}
 use Rattle.world_model.specs.World.{World, capacity, empty_world}
 use Rattle.world_model.specs.Ids.{next_id, room}
 use Rattle.world_model.specs.Lawful.{Suits}
@@ -76,6 +77,12 @@ module _ (registry : List TypeInfo) (s : SpawnEntry) (runs : SpawnRuns registry 
 
   pub spawn_small : nat_eq (capacity registry (map part_type (by_type (map (part_for registry (no_row n 0)) s.parts)))) 0 ≡ false
   spawn_small = ap (λ types. nat_eq (capacity registry types) 0) (types_are registry (no_row n 0) s.parts) ∙ runs.room
+
+-- the parts that a buffer was filled with
+pub parts_filled : (own : OwnRow) {registry r : List TypeInfo} {ps qs : List PartExpr} {items taken : List Part} → taken ≡ items → map seen items ≡ map (part_for r own) ps → r ≡ registry → ps ≡ qs
+    → map seen taken ≡ map (part_for registry own) qs
+parts_filled own {registry} {r} {ps} same filled registry_is parts_is =
+    ap (map seen) same ∙ filled ∙ ap (λ (x : List TypeInfo). map (part_for x own) ps) registry_is ∙ ap (map (part_for registry own)) parts_is
 
 -- ---- a row is made
 

@@ -1,4 +1,4 @@
-use Rattle.std.proofs.Common.{◌≡◌, ◌+◌, ◌×◌, ◌∙◌, ℕ, List, Ok, Err, Result, ap, map, subst, sym}
+use Rattle.std.proofs.Common.{◌≡◌, ◌+◌, ◌∙◌, ℕ, List, Ok, Err, Result, ap, map, subst, sym}
 use Rattle.std.specs.Prelude.{fold}
 use Rattle.ent_types.specs.declared.entity.Entity.{Entity}
 use Rattle.ent_types.specs.declared.type_info.TypeInfo.{TypeInfo}
@@ -18,7 +18,7 @@ use Rattle.structural_ops.specs.declared.fault.OpFault.{OpFault}
 use Rattle.structural_ops.specs.declared.fault.OpFault.TheVariants as fault
 use Rattle.structural_ops.specs.Worlds.{Gives, GivesAnswer, after, made}
 use Rattle.world_spawns.specs.Parts.{part_for}
-use Rattle.world_spawns.proofs.Made.{mid_registry, not_skipped, parts, row_registry, row_room, row_world, spawn_suits}
+use Rattle.world_spawns.proofs.Made.{mid_registry, not_skipped, parts_filled, row_registry, row_room, row_world, spawn_suits}
 use Rattle.world_spawns.proofs.spawns.spawn_row.Goals as goal
 
 pub fill-requires-clause-suit : goal.fill-requires-clause-suit
@@ -32,7 +32,7 @@ create-requires c =
     let registry = c.args.world.now.world.registry in
     let own = no_row c.args.n 0 in
     let are : map seen c.deref.result.now ≡ map (part_for registry own) c.args.spawn.now.parts =
-    ap (map seen) c.deref.ensures.value ∙ c.in_ok-fill.ensures ∙ ap (λ (r : List TypeInfo). map (part_for r own) c.as_slice.result.now) c.registry.ensures ∙ ap (map (part_for registry own)) c.as_slice.ensures in
+    parts_filled own c.deref.ensures.value c.in_ok-fill.ensures c.registry.ensures c.as_slice.ensures in
     subst (λ (ps : List (PartOf Value)). Suits registry (Create ps)) (sym are) (spawn_suits registry c.args.spawn.now c.requires.runs c.args.n)
 
 pub disable-requires : goal.disable-requires
@@ -41,7 +41,7 @@ disable-requires c = λ t i.
     let registry = old.world.registry in
     let own = no_row c.args.n 0 in
     let are : map seen c.deref.result.now ≡ map (part_for registry own) c.args.spawn.now.parts =
-    ap (map seen) c.deref.ensures.value ∙ c.in_ok-fill.ensures ∙ ap (λ (r : List TypeInfo). map (part_for r own) c.as_slice.result.now) c.registry.ensures ∙ ap (map (part_for registry own)) c.as_slice.ensures in
+    parts_filled own c.deref.ensures.value c.in_ok-fill.ensures c.registry.ensures c.as_slice.ensures in
     let gives : GivesAnswer old c.create.new.self (after old (Create (map (part_for registry own) c.args.spawn.now.parts))) (Ok (Made c.in-Ok.e)) =
     subst (λ (ps : List (PartOf Value)). GivesAnswer old c.create.new.self (after old (Create ps)) (Ok (Made c.in-Ok.e))) are c.in-Ok.ensures in
     subst (λ (r : List TypeInfo). IsKnown r t) (sym (mid_registry old c.args.spawn.now c.requires.runs c.requires.room c.args.n c.in-Ok.e gives.0 c.create.new.self.world gives.1.world_is))
@@ -53,7 +53,7 @@ unreachable-requires c =
     let registry = old.world.registry in
     let own = no_row c.args.n 0 in
     let are : map seen c.deref.result.now ≡ map (part_for registry own) c.args.spawn.now.parts =
-    ap (map seen) c.deref.ensures.value ∙ c.in_ok-fill.ensures ∙ ap (λ (r : List TypeInfo). map (part_for r own) c.as_slice.result.now) c.registry.ensures ∙ ap (map (part_for registry own)) c.as_slice.ensures in
+    parts_filled own c.deref.ensures.value c.in_ok-fill.ensures c.registry.ensures c.as_slice.ensures in
     let faulted : Gives old c.create.new.self (Create (map seen c.deref.result.now)) (Err (fault.Skip c.in-Err-Skip.field-0-0)) =
     subst (λ (r : Result Entity OpFault). Gives old c.create.new.self (Create (map seen c.deref.result.now)) (made r)) (c.in-Err-Skip.is ∙ ap Err c.in-Err-Skip.field-0-is) c.create.ensures in
     let gives : Gives old c.create.new.self (Create (map (part_for registry own) c.args.spawn.now.parts)) (Err (fault.Skip c.in-Err-Skip.field-0-0)) =
@@ -66,7 +66,7 @@ returns-in-Ok-clause-world c =
     let registry = old.world.registry in
     let own = no_row c.args.n 0 in
     let are : map seen c.deref.result.now ≡ map (part_for registry own) c.args.spawn.now.parts =
-    ap (map seen) c.deref.ensures.value ∙ c.in_ok-fill.ensures ∙ ap (λ (r : List TypeInfo). map (part_for r own) c.as_slice.result.now) c.registry.ensures ∙ ap (map (part_for registry own)) c.as_slice.ensures in
+    parts_filled own c.deref.ensures.value c.in_ok-fill.ensures c.registry.ensures c.as_slice.ensures in
     let gives : GivesAnswer old c.create.new.self (after old (Create (map (part_for registry own) c.args.spawn.now.parts))) (Ok (Made c.in-Ok.e)) =
     subst (λ (ps : List (PartOf Value)). GivesAnswer old c.create.new.self (after old (Create ps)) (Ok (Made c.in-Ok.e))) are c.in-Ok.ensures in
     let mid = c.create.new.self.world in
@@ -81,7 +81,7 @@ returns-in-Ok-clause-registry c =
     let registry = old.world.registry in
     let own = no_row c.args.n 0 in
     let are : map seen c.deref.result.now ≡ map (part_for registry own) c.args.spawn.now.parts =
-    ap (map seen) c.deref.ensures.value ∙ c.in_ok-fill.ensures ∙ ap (λ (r : List TypeInfo). map (part_for r own) c.as_slice.result.now) c.registry.ensures ∙ ap (map (part_for registry own)) c.as_slice.ensures in
+    parts_filled own c.deref.ensures.value c.in_ok-fill.ensures c.registry.ensures c.as_slice.ensures in
     let gives : GivesAnswer old c.create.new.self (after old (Create (map (part_for registry own) c.args.spawn.now.parts))) (Ok (Made c.in-Ok.e)) =
     subst (λ (ps : List (PartOf Value)). GivesAnswer old c.create.new.self (after old (Create ps)) (Ok (Made c.in-Ok.e))) are c.in-Ok.ensures in
     let mid = c.create.new.self.world in
@@ -97,7 +97,7 @@ returns-in-Ok-clause-room c =
     let registry = old.world.registry in
     let own = no_row c.args.n 0 in
     let are : map seen c.deref.result.now ≡ map (part_for registry own) c.args.spawn.now.parts =
-    ap (map seen) c.deref.ensures.value ∙ c.in_ok-fill.ensures ∙ ap (λ (r : List TypeInfo). map (part_for r own) c.as_slice.result.now) c.registry.ensures ∙ ap (map (part_for registry own)) c.as_slice.ensures in
+    parts_filled own c.deref.ensures.value c.in_ok-fill.ensures c.registry.ensures c.as_slice.ensures in
     let gives : GivesAnswer old c.create.new.self (after old (Create (map (part_for registry own) c.args.spawn.now.parts))) (Ok (Made c.in-Ok.e)) =
     subst (λ (ps : List (PartOf Value)). GivesAnswer old c.create.new.self (after old (Create ps)) (Ok (Made c.in-Ok.e))) are c.in-Ok.ensures in
     let mid = c.create.new.self.world in
