@@ -1,5 +1,5 @@
 -- A row of a spawn: it is made, and some of its types are disabled.
-use Rattle.std.proofs.Common.{◌≡◌, ℕ, suc, ◌+◌, ◌-◌, ◌≤◌, ◌<◌, ◌∙◌, arith, nat_eq, Bool, true, false, cond, sym, ap, ap₂, refl, subst, true≢false, List, [], ◌∷◌, map, Result, Ok, Err}
+use Rattle.std.proofs.Common.{◌≡◌, ℕ, suc, ◌+◌, ◌-◌, ◌≤◌, ◌<◌, ◌∙◌, arith, nat_eq, false, cond, sym, ap, ap₂, refl, subst, List, [], ◌∷◌, map, Result, Ok, Err}
 use Rattle.std.specs.Prelude.{fold}
 use Rattle.std.specs.List.{range_with_len}
 use Rattle.std.proofs.lemmas.Bool.{ne_eqb}
@@ -13,7 +13,6 @@ use Rattle.expr_trees.specs.declared.tree.CommandText.TheVariants as texts
 use Rattle.expr_trees.specs.declared.tree.PartExpr.{PartExpr}
 use Rattle.scenario_record.specs.declared.record.Scenario.{Scenario}
 use Rattle.scenario_record.specs.declared.record.SpawnEntry.{SpawnEntry}
-use Rattle.world_model.specs.Members.{In}
 use Rattle.ent_types.specs.declared.value.Part.{Part}
 use Rattle.world_model.specs.Part.{PartOf, by_type, part_map, part_of as seen, part_type}
 use Rattle.world_model.specs.World.{World, capacity, empty_world}
@@ -28,11 +27,9 @@ use Rattle.run_model.specs.Job.{no_row}
 use Rattle.run_model.specs.Playback.{value_given}
 use Rattle.run_model.specs.Tasks.{after_row_spawned, after_spawn, no_others, nothing_made, spawned}
 use Rattle.run_laws.specs.Runnable.{SpawnRuns, as_part, types_of_parts}
-use Rattle.run_laws.specs.Suits.{PartSuits}
 use Rattle.run_laws.proofs.EntriesSuit.{deed_suits}
-use Rattle.structural_ops.specs.declared.fault.OpFault.{OpFault}
 use Rattle.structural_ops.specs.declared.fault.OpFault.TheVariants as fault
-use Rattle.structural_ops.specs.Worlds.{Becomes, Gives, GivesAlways, WorldState, after}
+use Rattle.structural_ops.specs.Worlds.{Gives, GivesAlways, WorldState, after}
 use Rattle.world_spawns.specs.Parts.{part_for}
 use Rattle.world_spawns.proofs.Room.{room_all_off, room_made}
 use Rattle.world_spawns.proofs.Types.{same_order}
@@ -116,22 +113,38 @@ module _ (old : WorldState) (s : SpawnEntry) (runs : SpawnRuns old.world.registr
       ap (λ (a : Answer). room a.world + 1) answer_is
       ∙ room_made (capacity old.world.registry) (home_of old.world.registry (by_type parts)) (cells_of old.world.registry (by_type parts)) old.world some
 
-  -- it isn't skipped
-  pub not_skipped : (cause : Skip) → answer ≡ record { world = old.world; reply = Skipped cause } → ⊥
-  not_skipped cause is = let no_way : Made (next_id old.world) ≡ Skipped cause = ap (λ (a : Answer). a.reply) (sym answer_is ∙ is) in cc
+  module _ (new : WorldState) (ps : List (PartOf Value)) (are : ps ≡ parts) where
+    -- it isn't skipped
+    pub not_skipped : (cause : Skip) → Gives old new (Create ps) (Err (fault.Skip cause)) → ⊥
+    not_skipped cause gives =
+        let skips = subst (λ (qs : List (PartOf Value)). Gives old new (Create qs) (Err (fault.Skip cause))) are gives in
+        let no_way : Made (next_id old.world) ≡ Skipped cause = ap (λ (a : Answer). a.reply) (sym answer_is ∙ skips.0) in
+        cc
 
-  module _ (e : Entity) (made_it : answer.reply ≡ Made e) (mid : World) (is : mid ≡ answer.world) where
-    pub mid_registry : mid.registry ≡ old.world.registry
-    mid_registry = ap (λ (w : World). w.registry) is ∙ operate_registry (capacity old.world.registry) old.world (Create parts)
+    module _ (e : Entity) (gives : Gives old new (Create ps) (Ok (Made e))) where
+      makes : Gives old new (Create parts) (Ok (Made e))
+      makes = subst (λ (qs : List (PartOf Value)). Gives old new (Create qs) (Ok (Made e))) are gives
 
-    pub row_world : fold (switched_off (capacity old.world.registry) e) mid s.disabled ≡ after_row_spawned (capacity old.world.registry) s old.world n
-    row_world = ap (λ w. fold (switched_off (capacity old.world.registry) e) w s.disabled) is ∙ sym (off_of_made (capacity old.world.registry) s.disabled answer e made_it)
+      pub made_registry : new.world.registry ≡ old.world.registry
+      made_registry = ap (λ (w : World). w.registry) makes.1.world_is ∙ operate_registry (capacity old.world.registry) old.world (Create parts)
 
-    pub row_registry : (fold (switched_off (capacity old.world.registry) e) mid s.disabled).registry ≡ old.world.registry
-    row_registry = registry_all_off (capacity old.world.registry) e s.disabled mid ∙ mid_registry
+      module _ (last : WorldState) (off : last.world ≡ fold (switched_off (capacity new.world.registry) e) new.world s.disabled) where
+        last_is : last.world ≡ fold (switched_off (capacity old.world.registry) e) answer.world s.disabled
+        last_is =
+            off
+            ∙ ap (λ (r : List TypeInfo). fold (switched_off (capacity r) e) new.world s.disabled) made_registry
+            ∙ ap (λ (w : World). fold (switched_off (capacity old.world.registry) e) w s.disabled) makes.1.world_is
 
-    pub row_room : room (fold (switched_off (capacity old.world.registry) e) mid s.disabled) + 1 ≡ room old.world
-    row_room = ap (λ n. n + 1) (room_all_off (capacity old.world.registry) e s.disabled mid ∙ ap room is) ∙ answer_room
+        pub row_world : last.world ≡ after_row_spawned (capacity old.world.registry) s old.world n
+        row_world = last_is ∙ sym (off_of_made (capacity old.world.registry) s.disabled answer e makes.0)
+
+        pub row_registry : last.world.registry ≡ old.world.registry
+        row_registry =
+            ap (λ (w : World). w.registry) last_is ∙ registry_all_off (capacity old.world.registry) e s.disabled answer.world
+            ∙ operate_registry (capacity old.world.registry) old.world (Create parts)
+
+        pub row_room : room last.world + 1 ≡ room old.world
+        row_room = ap (λ (w : World). room w + 1) last_is ∙ ap (λ k. k + 1) (room_all_off (capacity old.world.registry) e s.disabled answer.world) ∙ answer_room
 
 -- ---- all rows
 

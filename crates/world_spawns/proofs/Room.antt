@@ -1,5 +1,5 @@
 -- How many more entities can be made after a row of a spawn: one fewer.
-use Rattle.std.proofs.Common.{◌≡◌, ℕ, zero, suc, ◌+◌, ◌-◌, ◌≤◌, ◌∙◌, nat_le, Bool, true, false, cond, sym, ap, ap₂, refl, subst, arith, List, [], ◌∷◌, length, map, Option, Some, None}
+use Rattle.std.proofs.Common.{◌≡◌, ℕ, suc, ◌+◌, ◌-◌, ◌≤◌, ◌∙◌, Bool, true, false, cond, ap, refl, arith, List, [], ◌∷◌, length, Option, Some, None}
 use Rattle.std.specs.Prelude.{fold, min, not}
 use Rattle.std.proofs.lemmas.List.{length-map}
 use Rattle.ent_types.specs.declared.entity.Entity.{Entity}
@@ -11,8 +11,7 @@ use Rattle.world_model.specs.Row.{Cell, Row}
 use Rattle.world_model.specs.World.{Home, World}
 use Rattle.world_model.specs.Found.{Found, alive_count, found, placed}
 use Rattle.world_model.specs.Ids.{next_id, room, room_of, take_id}
-use Rattle.world_model.specs.Enter.{enter}
-use Rattle.world_model.specs.Operations.{On, Outcome, SetEnabled, Skips, Writes, acted, apply, made, operate, switched, written}
+use Rattle.world_model.specs.Operations.{SetEnabled, Skips, Writes, acted, apply, made, operate, switched, written}
 use Rattle.world_model.specs.Scenes.{switched_off}
 use Rattle.world_laws.proofs.Entering.{enter_perm}
 use Rattle.world_laws.proofs.Perms.{perm_length}

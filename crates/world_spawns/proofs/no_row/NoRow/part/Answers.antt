@@ -1,7 +1,7 @@
 use Rattle.std.proofs.Common.{◌≡◌, ◌+◌, ◌<◌, ◌++◌, ◌∷◌, [], ◌∙◌, arith, ap, drop, get_or, length, subst, sym, List}
 use Rattle.ent_types.specs.declared.kinds.FieldKind.TheVariants.{I32}
 use Rattle.ent_types.specs.declared.value.Value.{Value}
-use Rattle.ent_types.specs.TypeLookups.{fields_at, field_kind_at}
+use Rattle.ent_types.specs.TypeLookups.{fields_at}
 use Rattle.expr_trees.specs.declared.tree.ValueExpr.{ValueExpr}
 use Rattle.run_model.specs.Job.{no_row}
 use Rattle.run_laws.specs.Suits.{AreOfKinds, IsOfKind}
