@@ -3,3 +3,4 @@ pub mod Elements
 pub mod RowText
 pub mod Places
 pub mod WorldLines
+pub mod Listing

@@ -1,0 +1,4 @@
+pub mod Given
+pub mod Types
+pub mod Room
+pub mod Made
