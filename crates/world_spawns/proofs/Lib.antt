@@ -1,4 +1,5 @@
 pub mod Given
-pub mod Types
-pub mod Room
 pub mod Made
+pub mod MayRead
+pub mod Room
+pub mod Types

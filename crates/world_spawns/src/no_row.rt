@@ -1,5 +1,5 @@
 //! What the texts of spawns and events see, and the parts that they give.
-ghost use Rattle.std.specs.Prelude.{◌≡◌, false, map, None, IfOk, OnOk};
+ghost use Rattle.std.specs.Prelude.{◌≡◌, true, map, None, IfOk, OnOk};
 ghost use Rattle.expr_trees.specs.declared.tree.PartExpr.{PartExpr as Given};
 ghost use Rattle.world_model.specs.Members.{In};
 ghost use Rattle.world_model.specs.Part.{part_of as seen};
@@ -25,7 +25,8 @@ pub struct NoRow {
 impl RowReader for NoRow {
     ghost own_row = { λ r. no_row r.n r.frame };
 
-    ghost has_field = { λ _ ty i. false };
+    // A field that no text reads is 0, as the definition of such a row has it.
+    ghost has_field = { λ _ ty i. true };
 
     fn field(&self, _ty: TypeId, _field: u8) -> Value {
         Value::Int(0)
@@ -63,7 +64,8 @@ pub struct NoOthers;
 impl Lookup for NoOthers {
     ghost found = { λ _ _. None };
 
-    ghost can_read = { λ _ ty. false };
+    // No entity is there, so nothing can be read of any type.
+    ghost can_read = { λ _ ty. true };
 
     fn value(&self, _e: Entity, _ty: TypeId, _field: u8) -> Option<Value> {
         None
