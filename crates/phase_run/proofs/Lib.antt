@@ -3,3 +3,8 @@ pub mod Numbers
 pub mod Chosen
 pub mod Loaned
 pub mod Planned
+pub mod Ready
+pub mod Ran
+pub mod Marking
+pub mod Prepared
+pub mod Turns

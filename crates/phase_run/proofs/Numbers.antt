@@ -21,10 +21,10 @@ by_number_same f g same [] bs = refl
 by_number_same f g same (n ∷ ns) [] = refl
 by_number_same f g same (n ∷ ns) (b ∷ bs) = ap₂ (λ (c : Block) (cs : List Block). c ∷ cs) (same n b) (by_number_same f g same ns bs)
 
-pub by_number_none : (f : ℕ → Block → Block) → ((m : ℕ) (b : Block) → f m b ≡ b) → (ns : List ℕ) (bs : List Block) → length ns ≡ length bs → by_number f ns bs ≡ bs
-by_number_none f same [] bs long = refl
-by_number_none f same (n ∷ ns) [] long = refl
-by_number_none f same (n ∷ ns) (b ∷ bs) long = ap₂ (λ (c : Block) (cs : List Block). c ∷ cs) (same n b) (by_number_none f same ns bs (omega arith))
+pub by_number_none : (f : ℕ → Block → Block) → ((m : ℕ) (b : Block) → f m b ≡ b) → (ns : List ℕ) (bs : List Block) → by_number f ns bs ≡ bs
+by_number_none f same [] bs = refl
+by_number_none f same (n ∷ ns) [] = refl
+by_number_none f same (n ∷ ns) (b ∷ bs) = ap₂ (λ (c : Block) (cs : List Block). c ∷ cs) (same n b) (by_number_none f same ns bs)
 
 pub by_number_length : (f : ℕ → Block → Block) (ns : List ℕ) (bs : List Block) → length (by_number f ns bs) ≡ length bs
 by_number_length f [] bs = refl

@@ -1,7 +1,8 @@
 -- What is lent for the visits of a run, and the world after it.
-use Rattle.std.specs.Prelude.{ℕ, ◌≡◌, if◌then◌else◌, List, [], ◌∷◌, map, Option}
+use Rattle.std.specs.Prelude.{ℕ, ◌≡◌, if◌then◌else◌, List, [], ◌∷◌, length, map, Option}
 use Rattle.ent_types.specs.declared.type_info.TypeInfo.{TypeInfo}
 use Rattle.ent_types.specs.TypeSets.{has_type}
+use Rattle.world_model.specs.Members.{AreDistinct}
 use Rattle.world_model.specs.World.{Block}
 use Rattle.world_model.specs.Write.{marked}
 use Rattle.expr_eval.specs.Values.{OtherRows}
@@ -16,6 +17,11 @@ use Rattle.query_select.specs.Entries.{last_run}
 use Rattle.query_select.specs.Visits.{numbered_visits}
 
 -- ---- before
+
+-- each block has a number of its own
+pub record IsNumbered (w : WorldState) : Type 0 where
+  pub once : AreDistinct w.numbers
+  pub each : length w.numbers ≡ length w.world.blocks
 
 -- a loan of these types of the block of each visit
 abbrev pub loans_for : List ℕ → List Visit → List (ℕ × List ℕ)

@@ -5,14 +5,13 @@ ghost use Rattle.run_laws.specs.Runnable.{SystemRuns};
 ghost use Rattle.query_select.specs.Caches.{IsCacheOf, full_cache};
 ghost use Rattle.query_select.specs.Entries.{unfiltered};
 ghost use Rattle.query_select.specs.Visits.{numbered_visits};
-ghost use Rattle.phase_run.specs.After.{AreVisitsOf, LendsWrites, ran, rows_ran, world_after};
+ghost use Rattle.phase_run.specs.After.{AreVisitsOf, IsNumbered, LendsWrites, ran, rows_ran, world_after};
 ghost use Rattle.phase_run.specs.Queries.{IsQueryOf};
 
 use crate::items::run_items;
 use crate::system_query::SystemQuery;
-use crate::visiting::{mark_visits, plan_visits, select_visits};
+use crate::visiting::{is_numbered, mark_visits, plan_visits, select_visits};
 use ent_types::{Memory, SystemVersion};
-use item_run::items_do_what_runs_do;
 use query_select::{Cache, Visit};
 use scenario_record::SystemEntry;
 use std::alloc::Global;
@@ -47,6 +46,7 @@ fn run_visits(
     done: Loans,
 ) -> World
     requires runs { SystemRuns world.world.registry system.now }
+    requires numbers { IsNumbered world }
     requires visits { AreVisitsOf system.now visits.now world }
     requires plan { LendsWrites system.now visits.now plan.now }
     requires lent { lent ≡ record { loans = []; spare = length visits.now } }
@@ -55,10 +55,8 @@ fn run_visits(
         → result ≡ rows_ran system.now last frame world }
 {
     world.is_lawful();
-    world.store().is_sound();
     the_rest_reads_as_before(&world);
     loans_bring_what_was_written(&world);
-    items_do_what_runs_do();
     let (frozen, lent) = world.freeze(plan, lent);
     let done = run_items(&frozen, system, frame, visits, lent, done);
     loans_come_in_any_order(&frozen);
@@ -98,6 +96,7 @@ pub fn run_system(
 {
     let mut world = world;
     world.raise();
+    is_numbered(&world);
     let visits = select_visits::<Brand>(alloc, &world, query, last, cache, Blank::new(1))?;
     let passing = cache.passing(&world);
     let plan = plan_visits(alloc, &visits, &query.written)?;

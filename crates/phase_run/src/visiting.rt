@@ -9,7 +9,7 @@ ghost use Rattle.query_select.specs.Caches.{IsCacheOf, full_cache};
 ghost use Rattle.query_select.specs.Entries.{IsEntryOf, entry_of, last_run, unfiltered};
 ghost use Rattle.query_select.specs.Visits.{numbered_visits};
 ghost use Rattle.structural_ops.specs.Numbered.{HasBlock, with_each};
-ghost use Rattle.phase_run.specs.After.{loans_for, visit_marked};
+ghost use Rattle.phase_run.specs.After.{IsNumbered, loans_for, visit_marked};
 
 use crate::system_query::SystemQuery;
 use ent_types::{Memory, Steps, SystemVersion, TypeSet};
@@ -17,6 +17,13 @@ use query_select::{Cache, Visit, select, systems_with_a_query_visit_alike};
 use std::alloc::Global;
 use std::sync::ledger::{Blank, Ledger};
 use structural_ops::{LendPlan, World};
+
+/// Says that each block has a number of its own. It does nothing.
+pub(crate) fn is_numbered(world: &World)
+    ensures { IsNumbered world.now }
+{
+    world.store().is_sound();
+}
 
 /// Returns the visits of a system with this query, and counts no steps.
 pub(crate) fn select_visits<L: Ledger>(
