@@ -8,3 +8,4 @@ pub mod Ran
 pub mod Marking
 pub mod Prepared
 pub mod Turns
+pub mod Returned

@@ -59,14 +59,11 @@ filter_has p (u ∷ us) t = by (p u) (nat_eq u t) refl refl (filter_has p us t)
 
 all_has : (p : ℕ → Bool) (ts : List ℕ) (t : ℕ) → list_all p ts ≡ true → has_type ts t ≡ true → p t ≡ true
 all_has p [] t all has = absurd (cc has)
-all_has p (u ∷ us) t all has = by (nat_eq u t) refl has
+all_has p (u ∷ us) t all has = by (nat_eq u t) refl has (all_has p us t (and_parts (p u) (list_all p us) all).1)
   where
-    parts : (p u ≡ true) × (list_all p us ≡ true)
-    parts = and_parts (p u) (list_all p us) all
-
-    by : (b : Bool) → nat_eq u t ≡ b → (b || has_type us t) ≡ true → p t ≡ true
-    by true here h = ap p (sym (eqb-true u t here)) ∙ parts.0
-    by false here h = all_has p us t parts.1 h
+    by : (b : Bool) → nat_eq u t ≡ b → (b || has_type us t) ≡ true → (has_type us t ≡ true → p t ≡ true) → p t ≡ true
+    by true here h rest = ap p (sym (eqb-true u t here)) ∙ (and_parts (p u) (list_all p us) all).0
+    by false here h rest = rest h
 
 -- ---- what a plan lends
 
@@ -144,16 +141,17 @@ column_own Buffer is = refl
 module _ (registry : List TypeInfo) (s : SystemEntry) where
   -- each row that matches has the types that are bound
   pub bound_there : (types : List ℕ) → passes registry s types ≡ true → (t : ℕ) → is_bound s t ≡ true → has_type types t ≡ true
-  bound_there types passing t bound = by (has_type s.all t) refl bound
+  bound_there types passing t bound =
+      let first = and_parts (list_all (has_type types) s.all) _ passing in
+      let second = and_parts _ _ first.1 in
+      let third = and_parts _ _ second.1 in
+      let fourth = and_parts (list_all (has_type types) s.disabled) _ third.1 in
+      by (has_type s.all t) refl bound first.0 fourth.0
     where
-      first = and_parts (list_all (has_type types) s.all) _ passing
-      second = and_parts _ _ first.1
-      third = and_parts _ _ second.1
-      fourth = and_parts (list_all (has_type types) s.disabled) _ third.1
-
-      by : (b : Bool) → has_type s.all t ≡ b → (b || has_type s.disabled t) ≡ true → has_type types t ≡ true
-      by true is h = all_has (has_type types) s.all t first.0 is
-      by false is h = all_has (has_type types) s.disabled t fourth.0 h
+      by : (b : Bool) → has_type s.all t ≡ b → (b || has_type s.disabled t) ≡ true → list_all (has_type types) s.all ≡ true → list_all (has_type types) s.disabled ≡ true
+          → has_type types t ≡ true
+      by true is h all disabled = all_has (has_type types) s.all t all is
+      by false is h all disabled = all_has (has_type types) s.disabled t disabled h
 
   module _ (lawful : IsLawfulRegistry registry) (runs : SystemRuns registry s) where
     -- what is written is bound and isn't shared

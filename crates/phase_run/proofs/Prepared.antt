@@ -15,6 +15,9 @@ use Rattle.world_laws.proofs.Types.{has_in}
 use Rattle.world_loans.proofs.Lent.{has_append}
 use Rattle.scenario_record.specs.declared.record.SystemEntry.{SystemEntry}
 use Rattle.scenario_record.specs.Lawful.{is_bound}
+use Rattle.world_places.proofs.Lists.{map_twice}
+use Rattle.phase_run.specs.Queries.{assigned_types, switched_types}
+use Rattle.run_model.specs.Job.{Assigns, Switches, writes, written_type}
 use Rattle.run_model.specs.LawfulQuery.{IsLawfulFilter, IsShared, IsWatched, query_types}
 use Rattle.run_model.specs.Query.{passes}
 use Rattle.run_laws.specs.Runnable.{SystemRuns}
@@ -33,6 +36,12 @@ one_with types left t u =
     by true true c = refl
     by true false c = refl
     by false b c = refl
+
+-- the types that a system writes are those of its assignments and those of its enable texts
+pub types_written : (s : SystemEntry) → writes s ≡ assigned_types s.set ++ switched_types s.enable
+types_written s =
+    map_append written_type (map Assigns s.set) (map Switches s.enable)
+    ∙ ap₂ (λ (xs ys : List ℕ). xs ++ ys) (map_twice written_type Assigns s.set) (map_twice written_type Switches s.enable)
 
 -- ---- known types
 

@@ -66,9 +66,6 @@ module _ (w : WorldState) (s : SystemEntry) (last : Option ℕ) (types : List �
 
   module _ (number : ℕ) (v : Visit) (i : In v visits) (m : LoanState) (j : In m ms)
       (does : Does (rows_of_loan (frozen w s last types visits are distinct) frame number (loan_for w s last types visits are distinct v)) (texts_of s) v.rows m) where
-    abbrev n : ℕ
-    n = v.block
-
     abbrev x : RowsState
     x = rows_of_loan (frozen w s last types visits are distinct) frame number (loan_for w s last types visits are distinct v)
 
@@ -76,29 +73,29 @@ module _ (w : WorldState) (s : SystemEntry) (last : Option ℕ) (types : List �
     is = visit_is w s last types visits are distinct v i
 
     -- the pieces go into the frozen block or into the block as it was
-    thawed : fold given_rows (at n).rows (pieces_of ms n) ≡ fold given_rows (cold n).rows (pieces_of ms n)
+    thawed : fold given_rows (at v.block).rows (pieces_of ms v.block) ≡ fold given_rows (cold v.block).rows (pieces_of ms v.block)
     thawed =
         ap (λ (b : Block). b.rows)
-        (sym (block_changed n (with_cells ms) w.numbers w.world.blocks is.there)
-        ∙ (sym (ap (λ (y : WorldState). block_at n y.numbers y.world.blocks) brings)
-        ∙ block_changed n (with_cells ms) w.numbers (frozen w s last types visits are distinct).state.world.blocks
-        (there_changed n _ w.numbers w.world.blocks is.there)))
+        (sym (block_changed v.block (with_cells ms) w.numbers w.world.blocks is.there)
+        ∙ (sym (ap (λ (y : WorldState). block_at v.block y.numbers y.world.blocks) brings)
+        ∙ block_changed v.block (with_cells ms) w.numbers (frozen w s last types visits are distinct).state.world.blocks
+        (there_changed v.block _ w.numbers w.world.blocks is.there)))
 
-    one_loan : fold given_rows (cold n).rows (pieces_of ms n) ≡ fold given_rows (cold m.number).rows m.pieces
+    one_loan : fold given_rows (cold v.block).rows (pieces_of ms v.block) ≡ fold given_rows (cold m.number).rows m.pieces
     one_loan =
         ap (λ k. fold given_rows (cold k).rows (pieces_of ms k)) (sym does.loan.number)
         ∙ ap (fold given_rows (cold m.number).rows) (pieces_single ms done_apart m j)
 
     -- a loan that wasn't written has the rows of the block
-    before : rows_of x ≡ (at n).rows
+    before : rows_of x ≡ (at v.block).rows
     before =
-        ap (fold given_rows (cold n).rows) (sym (loan_pieces w s last types visits are distinct v i))
+        ap (fold given_rows (cold v.block).rows) (sym (loan_pieces w s last types visits are distinct v i))
         ∙ ap (λ (b : Block). b.rows)
-        (sym (block_changed n (with_cells (loans w s last types visits are distinct)) w.numbers (frozen w s last types visits are distinct).state.world.blocks
-        (there_changed n _ w.numbers w.world.blocks is.there))
-        ∙ ap (λ (y : WorldState). block_at n y.numbers y.world.blocks) untouched)
+        (sym (block_changed v.block (with_cells (loans w s last types visits are distinct)) w.numbers (frozen w s last types visits are distinct).state.world.blocks
+        (there_changed v.block _ w.numbers w.world.blocks is.there))
+        ∙ ap (λ (y : WorldState). block_at v.block y.numbers y.world.blocks) untouched)
 
-    seat : Home → Seat
+    abbrev seat : Home → Seat
     seat home = record {
       registry = registry;
       home = home;
@@ -114,11 +111,11 @@ module _ (w : WorldState) (s : SystemEntry) (last : Option ℕ) (types : List �
         ∙ (does.rows
         ∙ (ap₂ (λ (home : Home) (rs : List Row). after_texts_on (seat home) (texts_of s) v.rows rs)
         (ap (λ (b : Block). b.home) (frozen_is w s last types visits are distinct v i)) before
-        ∙ (as_run registry s (others_in (frozen w s last types visits are distinct).state.world) frame number (at n).home v.rows (at n).rows
+        ∙ (as_run registry s (others_in (frozen w s last types visits are distinct).state.world) frame number (at v.block).home v.rows (at v.block).rows
         (λ k below.
         ap (λ (mask : List ℕ). has mask k) is.rows
-        ∙ places_match registry s (at n).home (at n).rows (block_few w s last types visits are distinct frame written runs lawful of v i) k below)
-        ∙ rows_alike (sources_of registry s) (others_in (frozen w s last types visits are distinct).state.world) others alike registry s runs.reads frame number (at n).home 0 (at n).rows))))
+        ∙ places_match registry s (at v.block).home (at v.block).rows (block_few w s last types visits are distinct frame written runs lawful of v i) k below)
+        ∙ rows_alike (sources_of registry s) (others_in (frozen w s last types visits are distinct).state.world) others alike registry s runs.reads frame number (at v.block).home 0 (at v.block).rows))))
 
   -- ---- all visits
 
@@ -156,25 +153,26 @@ module _ (w : WorldState) (s : SystemEntry) (last : Option ℕ) (types : List �
 
   blocks_are : (number : ℕ) (ns : List ℕ) (bs : List Block) → AreAt at ns bs → HaveRun number (chosen registry s last ns bs)
       → by_number (with_cells ms) ns bs ≡ blocks_ran registry s last frame others number bs
-  blocks_are number [] [] are_at run = refl
-  blocks_are number [] (b ∷ bs) are_at run = absurd are_at
-  blocks_are number (n ∷ ns) [] are_at run = refl
-  blocks_are number (n ∷ ns) (b ∷ bs) are_at run =
-      by (is_visited registry versions s last b) refl (subst (HaveRun number) (chosen_first registry s last n b ns bs) run)
+  blocks_are number [] [] found run = refl
+  blocks_are number [] (b ∷ bs) found run = absurd found
+  blocks_are number (n ∷ ns) [] found run = refl
+  blocks_are number (n ∷ ns) (b ∷ bs) found run =
+      by (is_visited registry versions s last b) refl (subst (HaveRun number) (chosen_first registry s last n b ns bs) run) (λ k h. blocks_are k ns bs found.1 h)
     where
       by : (t : Bool) → is_visited registry versions s last b ≡ t
           → HaveRun number (cond t (visit_at registry s last n b ∷ chosen registry s last ns bs) (chosen registry s last ns bs))
+          → ((k : ℕ) → HaveRun k (chosen registry s last ns bs) → by_number (with_cells ms) ns bs ≡ blocks_ran registry s last frame others k bs)
           → with_cells ms n b ∷ by_number (with_cells ms) ns bs
           ≡ cond t (record b { rows = rows_after registry s others frame number b.home 0 b.rows }) b ∷ blocks_ran registry s last frame others (cond t (number + 1) number) bs
-      by true visited h =
+      by true visited h rest =
           ap₂ (λ (c : Block) (cs : List Block). c ∷ cs)
           (ap (λ (rs : List Row). record b { rows = rs })
-          (subst (λ (c : Block). fold given_rows c.rows (pieces_of ms n) ≡ rows_after registry s others frame number c.home 0 c.rows) are_at.0 h.0))
-          (blocks_are (number + 1) ns bs are_at.1 h.1)
-      by false left h =
+          (subst (λ (c : Block). fold given_rows c.rows (pieces_of ms n) ≡ rows_after registry s others frame number c.home 0 c.rows) found.0 h.0))
+          (rest (number + 1) h.1)
+      by false left h rest =
           ap₂ (λ (c : Block) (cs : List Block). c ∷ cs)
-          (ap (λ ps. record b { rows = fold given_rows b.rows ps }) (bare n b are_at.0 left))
-          (blocks_are number ns bs are_at.1 h)
+          (ap (λ ps. record b { rows = fold given_rows b.rows ps }) (bare n b found.0 left))
+          (rest number h)
 
   -- the world with the rows of a run
   pub world_ran : with_loans ms w ≡ rows_ran s last frame w
