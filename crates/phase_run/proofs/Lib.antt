@@ -9,3 +9,4 @@ pub mod Marking
 pub mod Prepared
 pub mod Turns
 pub mod Returned
+pub mod Finished
