@@ -1,5 +1,5 @@
 -- The visits of a run: to which blocks they are, and how many there are.
-use Rattle.std.proofs.Common.{ℕ, ◌≡◌, ◌∙◌, ◌+◌, ◌≤◌, ◌<◌, ◌⊎◌, inl, inr, nat_lt, Bool, true, false, ◌&&◌, cond, nat_eq, refl, sym, ap, ap₂, subst, List, [], ◌∷◌, ◌++◌, length, map, Option, arith}
+use Rattle.std.proofs.Common.{ℕ, ◌≡◌, ◌∙◌, ◌+◌, ◌≤◌, ◌<◌, inl, inr, nat_lt, Bool, true, false, ◌&&◌, cond, refl, sym, ap, subst, List, [], ◌∷◌, length, map, Option, arith}
 use Rattle.std.specs.Prelude.{⊤}
 use Rattle.std.specs.Bool.{MatchBool}
 use Rattle.std.proofs.lemmas.Bool.{and_parts, eq-eqb, lt-ltb, ltb-true, ne_eqb}
@@ -9,13 +9,13 @@ use Rattle.enable_bits.proofs.MaskLemmas.{has-places_where, has-test, places_whe
 use Rattle.world_model.specs.Members.{In, AreDistinct, one_if, tally}
 use Rattle.world_model.specs.Row.{Row}
 use Rattle.world_model.specs.World.{Block, Home}
-use Rattle.world_laws.proofs.Members.{in_map, map_in, tally_more}
+use Rattle.world_laws.proofs.Members.{in_map, tally_more}
 use Rattle.chunk_block.specs.Blocks.{row_in}
 use Rattle.structural_ops.specs.Freezing.{block_at}
 use Rattle.structural_ops.specs.Numbered.{OfNumbered}
 use Rattle.scenario_record.specs.declared.record.SystemEntry.{SystemEntry}
 use Rattle.run_model.specs.Clock.{versions}
-use Rattle.run_model.specs.Query.{is_fresh, is_visited, has_shared, matches, passes}
+use Rattle.run_model.specs.Query.{is_visited, has_shared, matches, passes}
 use Rattle.query_select.specs.declared.visits.Visit.{Visit}
 use Rattle.query_select.specs.Rows.{matching_places}
 use Rattle.query_select.specs.Visits.{numbered_visits}

@@ -1,5 +1,5 @@
 -- The world after a run, and what the run counted.
-use Rattle.std.proofs.Common.{ℕ, ◌≡◌, ◌∙◌, ◌≤◌, refl, sym, ap, subst, List, length, Option}
+use Rattle.std.proofs.Common.{ℕ, ◌≡◌, ◌∙◌, refl, sym, ap, subst, List, length, Option}
 use Rattle.std.specs.Prelude.{⊤}
 use Rattle.ent_types.specs.TypeSets.{has_type}
 use Rattle.system_version.specs.Versions.{next_version}

@@ -1,5 +1,5 @@
 -- Blocks that are marked visit by visit, and the world after a run.
-use Rattle.std.proofs.Common.{ℕ, ◌≡◌, ◌∙◌, ◌+◌, ◌≤◌, inl, inr, Bool, true, false, ◌||◌, cond, nat_eq, refl, sym, ap, ap₂, subst, List, [], ◌∷◌, ◌++◌, length, map, Option, arith}
+use Rattle.std.proofs.Common.{ℕ, ◌≡◌, ◌∙◌, inl, inr, Bool, true, false, ◌||◌, cond, nat_eq, refl, sym, ap, ap₂, subst, List, [], ◌∷◌, ◌++◌, length, map, Option, arith}
 use Rattle.std.specs.Prelude.{⊤}
 use Rattle.std.specs.Bool.{MatchBool}
 use Rattle.std.proofs.lemmas.Bool.{eq-eqb, ne_eqb}
@@ -8,7 +8,7 @@ use Rattle.ent_types.specs.declared.type_info.TypeInfo.{TypeInfo}
 use Rattle.ent_types.specs.TypeSets.{has_type}
 use Rattle.world_model.specs.Members.{In, AreDistinct}
 use Rattle.world_model.specs.Row.{Row}
-use Rattle.world_model.specs.World.{Block, Mark, World}
+use Rattle.world_model.specs.World.{Block, Mark}
 use Rattle.world_model.specs.Write.{marked}
 use Rattle.world_laws.proofs.Members.{map_append}
 use Rattle.world_places.proofs.Lists.{map_same}
@@ -131,7 +131,7 @@ module _ (registry : List TypeInfo) (s : SystemEntry) (last : Option ℕ) where
   tested_from among (n ∷ ns) (b ∷ bs) distinct long same = (
     same n (inl refl) ∙ first_chosen n b ns bs distinct.0,
     tested_from among ns bs distinct.1 (omega (arith, long))
-    (λ m i. same m (inr i) ∙ later_chosen n m b ns bs (λ is. distinct.0 (subst (λ k. In k ns) (sym is) i))),
+        (λ m i. same m (inr i) ∙ later_chosen n m b ns bs (λ is. distinct.0 (subst (λ k. In k ns) (sym is) i))),
   )
 
   tested : (ns : List ℕ) (bs : List Block) → AreDistinct ns → length ns ≡ length bs → AreTested (map visit_block (chosen registry s last ns bs)) ns bs

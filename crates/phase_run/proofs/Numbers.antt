@@ -1,9 +1,8 @@
 -- Blocks that are changed by their numbers, and the block of a number among them.
-use Rattle.std.proofs.Common.{ℕ, ◌≡◌, ◌∙◌, ◌||◌, inl, inr, Bool, true, false, cond, nat_eq, refl, sym, ap, ap₂, subst, List, [], ◌∷◌, length, arith}
+use Rattle.std.proofs.Common.{ℕ, ◌≡◌, ◌∙◌, inl, inr, Bool, true, false, cond, nat_eq, refl, sym, ap, ap₂, subst, List, [], ◌∷◌, length, arith}
 use Rattle.std.specs.Prelude.{⊤}
 use Rattle.std.specs.Bool.{MatchBool}
 use Rattle.std.proofs.lemmas.Bool.{eq-eqb, eqb-true, ne_eqb}
-use Rattle.ent_types.specs.TypeSets.{has_type}
 use Rattle.world_model.specs.Members.{In, AreDistinct}
 use Rattle.world_model.specs.World.{Block}
 use Rattle.structural_ops.specs.Freezing.{block_at}
@@ -85,6 +84,6 @@ are_at (n ∷ ns) [] distinct long = absurd (omega (arith, long))
 are_at (n ∷ ns) (b ∷ bs) distinct long = (
   ap (λ t. cond t b (block_at n ns bs)) (eq-eqb n n refl),
   are_at_same (λ m. block_at m ns bs) (λ m. block_at m (n ∷ ns) (b ∷ bs)) ns bs
-  (λ m i. ap (λ t. cond t b (block_at m ns bs)) (ne_eqb n m (λ same. distinct.0 (subst (λ k. In k ns) (sym same) i))))
-  (are_at ns bs distinct.1 (omega arith)),
+      (λ m i. ap (λ t. cond t b (block_at m ns bs)) (ne_eqb n m (λ same. distinct.0 (subst (λ k. In k ns) (sym same) i))))
+      (are_at ns bs distinct.1 (omega arith)),
 )

@@ -3,15 +3,15 @@ use Rattle.std.proofs.Common.{ℕ, ◌≡◌, ◌∙◌, ◌≤◌, ◌⊎◌, i
 use Rattle.std.specs.Prelude.{⊤}
 use Rattle.std.specs.Bool.{MatchBool}
 use Rattle.std.specs.List.{list_all, list_any}
-use Rattle.std.proofs.lemmas.Bool.{and_parts, eq-eqb, eqb-true, ne_eqb}
+use Rattle.std.proofs.lemmas.Bool.{and_parts, eq-eqb, eqb-true}
 use Rattle.chunk_layout.proofs.CapacityLemmas.{capacity_of-bounded}
 use Rattle.ent_types.specs.declared.kinds.Kind.{Kind}
 use Rattle.ent_types.specs.declared.kinds.Kind.TheVariants.{Plain, Tag, Shared, Cleanup, Buffer}
 use Rattle.ent_types.specs.declared.type_info.TypeInfo.{TypeInfo}
 use Rattle.ent_types.specs.Registries.{IsLawfulRegistry, type_at}
 use Rattle.ent_types.specs.Types.{column_size, has_column, is_shared}
-use Rattle.ent_types.specs.TypeLookups.{has_column_at, is_shared_at}
-use Rattle.ent_types.specs.TypeSets.{has_type, meets}
+use Rattle.ent_types.specs.TypeLookups.{is_shared_at}
+use Rattle.ent_types.specs.TypeSets.{has_type}
 use Rattle.system_version.specs.Versions.{version_of}
 use Rattle.world_model.specs.Members.{In, AreDistinct}
 use Rattle.world_model.specs.Versions.{IsLawfulCode, block_versions}
@@ -23,8 +23,6 @@ use Rattle.world_loans.specs.Plans.{AreApart, planned}
 use Rattle.world_loans.proofs.Lent.{has_append}
 use Rattle.structural_ops.specs.Freezing.{block_at, lent_at, lents}
 use Rattle.structural_ops.specs.Numbered.{OfNumbered}
-use Rattle.expr_trees.specs.declared.tree.Assign.{Assign}
-use Rattle.expr_trees.specs.declared.tree.Switch.{Switch}
 use Rattle.scenario_record.specs.declared.record.SystemEntry.{SystemEntry}
 use Rattle.scenario_record.specs.Lawful.{is_bound}
 use Rattle.run_model.specs.Job.{Assigns, Switches, Text, texts_of, writes, written_type}

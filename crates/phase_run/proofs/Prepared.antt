@@ -1,24 +1,21 @@
 -- A system by its query: which types it writes, and which blocks pass.
-use Rattle.std.proofs.Common.{ℕ, ◌≡◌, ◌∙◌, ◌+◌, ◌≤◌, ◌<◌, ◌⊎◌, inl, inr, Bool, true, false, ◌||◌, ◌&&◌, cond, nat_eq, refl, sym, ap, ap₂, subst, List, [], ◌∷◌, ◌++◌, length, map, take, get_or, arith}
-use Rattle.std.proofs.lemmas.List.{take_more}
+use Rattle.std.proofs.Common.{ℕ, ◌≡◌, ◌∙◌, ◌+◌, ◌≤◌, ◌<◌, Bool, true, false, ◌||◌, nat_eq, refl, sym, ap, ap₂, subst, List, [], ◌∷◌, ◌++◌, length, map, arith}
 use Rattle.ent_types.specs.declared.type_info.TypeInfo.{TypeInfo}
 use Rattle.ent_types.specs.declared.value.Part.{Part}
 use Rattle.ent_types.specs.declared.limits.TheConstants.{MOST_CHANGED, MOST_SHARED_FILTERS, MOST_TYPES}
 use Rattle.ent_types.specs.Registries.{IsLawfulRegistry}
 use Rattle.ent_types.specs.TypeSets.{has_type, with_type}
 use Rattle.ent_types.proofs.TypeSetLemmas.{has_type-with_type}
-use Rattle.world_model.specs.Fits.{IsKnown}
 use Rattle.world_model.specs.Members.{In, AreDistinct, one_if, tally}
 use Rattle.world_model.specs.World.{Block}
-use Rattle.world_laws.proofs.Members.{in_left, in_right, map_append, map_in}
+use Rattle.world_laws.proofs.Members.{in_left, in_right, map_append}
 use Rattle.world_laws.proofs.Types.{has_in}
-use Rattle.world_loans.proofs.Lent.{has_append}
 use Rattle.scenario_record.specs.declared.record.SystemEntry.{SystemEntry}
 use Rattle.scenario_record.specs.Lawful.{is_bound}
 use Rattle.world_places.proofs.Lists.{map_twice}
 use Rattle.phase_run.specs.Queries.{assigned_types, switched_types}
 use Rattle.run_model.specs.Job.{Assigns, Switches, writes, written_type}
-use Rattle.run_model.specs.LawfulQuery.{IsLawfulFilter, IsShared, IsWatched, query_types}
+use Rattle.run_model.specs.LawfulQuery.{IsLawfulFilter, query_types}
 use Rattle.run_model.specs.Query.{passes}
 use Rattle.run_laws.specs.Runnable.{SystemRuns}
 use Rattle.query_select.specs.declared.filter.Filter.{Filter}

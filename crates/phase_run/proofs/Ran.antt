@@ -1,6 +1,5 @@
 -- The world to which the loans of a run came back.
-use Rattle.std.proofs.Common.{ℕ, ◌≡◌, ◌∙◌, ◌+◌, ◌≤◌, ◌<◌, inl, inr, Bool, true, false, cond, refl, sym, ap, ap₂, subst, List, [], ◌∷◌, length, map, fold, Option}
-use Rattle.std.specs.Prelude.{⊤}
+use Rattle.std.proofs.Common.{ℕ, ◌≡◌, ◌∙◌, ◌+◌, inl, inr, Bool, true, false, cond, refl, sym, ap, ap₂, subst, List, [], ◌∷◌, length, map, fold, Option}
 use Rattle.ent_types.specs.declared.type_info.TypeInfo.{TypeInfo}
 use Rattle.ent_types.specs.TypeSets.{has_type}
 use Rattle.enable_bits.specs.Masks.{has}
@@ -19,16 +18,16 @@ use Rattle.scenario_record.specs.declared.record.SystemEntry.{SystemEntry}
 use Rattle.run_model.specs.Clock.{versions}
 use Rattle.run_model.specs.Job.{others_in, texts_of, writes}
 use Rattle.run_model.specs.Query.{is_visited}
-use Rattle.run_model.specs.Run.{item_after, rows_after}
+use Rattle.run_model.specs.Run.{rows_after}
 use Rattle.run_laws.specs.Runnable.{SystemRuns, sources_of}
 use Rattle.query_select.specs.declared.visits.Visit.{Visit}
 use Rattle.item_run.specs.Seats.{Seat, after_texts_on}
-use Rattle.item_run.specs.ItemRows.{RowsState, rows_of, seat_of}
+use Rattle.item_run.specs.ItemRows.{RowsState, rows_of}
 use Rattle.item_run.specs.Writing.{Does}
 use Rattle.item_run.proofs.RowByRow.{as_run}
 use Rattle.phase_run.specs.After.{blocks_ran, loans_for, rows_ran}
 use Rattle.phase_run.specs.Visited.{AreDone, rows_of_loan}
-use Rattle.phase_run.proofs.Chosen.{IsVisit, chosen, chosen_first, places_match, visit_at, visit_block}
+use Rattle.phase_run.proofs.Chosen.{IsVisit, chosen, chosen_first, places_match, visit_at}
 use Rattle.phase_run.proofs.Loaned.{loan_number, numbers_kept, pieces_elsewhere, pieces_single}
 use Rattle.phase_run.proofs.Numbers.{AreAt, are_at, block_changed, there_changed}
 use Rattle.phase_run.proofs.Reading.{AreAlike, rows_alike}

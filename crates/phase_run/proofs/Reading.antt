@@ -1,5 +1,5 @@
 -- What the texts of a system see of other rows, and texts that read from more sources.
-use Rattle.std.proofs.Common.{ℕ, ℤ, ◌≡◌, ◌∙◌, ◌+◌, ◌⊎◌, inl, inr, Bool, true, false, ◌&&◌, cond, refl, sym, ap, ap₂, subst, List, [], ◌∷◌, map, slice_set}
+use Rattle.std.proofs.Common.{ℕ, ℤ, ◌≡◌, ◌∙◌, ◌+◌, ◌⊎◌, inl, inr, Bool, true, ◌&&◌, cond, refl, sym, ap, ap₂, subst, List, [], ◌∷◌, map, slice_set}
 use Rattle.std.proofs.lemmas.Bool.{and_parts, and_from}
 use Rattle.ent_types.specs.declared.entity.Entity.{Entity}
 use Rattle.ent_types.specs.declared.entity.TypeId.{TypeId}
@@ -27,8 +27,6 @@ use Rattle.expr_trees.specs.declared.tree.ValueExpr.TheVariants as values
 use Rattle.expr_trees.specs.declared.tree.PartExpr.{PartExpr}
 use Rattle.expr_trees.specs.declared.tree.CommandText.{CommandText}
 use Rattle.expr_trees.specs.declared.tree.CommandText.TheVariants as texts
-use Rattle.expr_trees.specs.declared.tree.Assign.{Assign}
-use Rattle.expr_trees.specs.declared.tree.Switch.{Switch}
 use Rattle.scenario_record.specs.declared.record.SystemEntry.{SystemEntry}
 use Rattle.run_model.specs.Job.{Assigns, Switches, Spot, Text, after_text, after_texts, fitted, own_of, texts_of}
 use Rattle.run_model.specs.Query.{matches}

@@ -1,5 +1,5 @@
 -- Each visit of a run with its loan is an item.
-use Rattle.std.proofs.Common.{ℕ, ◌≡◌, ◌∙◌, ◌+◌, ◌≤◌, ◌<◌, inl, inr, Bool, true, false, not, ◌||◌, ◌&&◌, refl, sym, ap, ap₂, subst, List, [], ◌∷◌, length, map, Option, arith}
+use Rattle.std.proofs.Common.{ℕ, ◌≡◌, ◌∙◌, ◌+◌, ◌≤◌, ◌<◌, inl, inr, Bool, true, false, not, ◌||◌, refl, sym, ap, subst, List, [], ◌∷◌, length, map, Option, arith}
 use Rattle.std.specs.Prelude.{⊤}
 use Rattle.std.proofs.lemmas.Bool.{and_from, and_parts}
 use Rattle.std.proofs.lemmas.List.{length-map}
@@ -13,7 +13,7 @@ use Rattle.world_model.specs.Versions.{IsLawfulCode}
 use Rattle.world_model.specs.World.{Block, capacity}
 use Rattle.world_laws.proofs.Members.{in_map, map_in}
 use Rattle.block_laws.specs.Lending.{piece_types}
-use Rattle.chunk_block.specs.Blocks.{AreDistinct as AreOnce, IsLoanOf, LoanState, lent_row}
+use Rattle.chunk_block.specs.Blocks.{IsLoanOf, LoanState, lent_row}
 use Rattle.world_loans.specs.Plans.{planned}
 use Rattle.world_loans.specs.Returns.{is_piece, pieces_of}
 use Rattle.world_loans.proofs.Counted.{pieces_tally}
@@ -34,7 +34,7 @@ use Rattle.phase_run.specs.After.{loans_for}
 use Rattle.phase_run.specs.Visited.{AreItems, item_of, rows_of_loan}
 use Rattle.phase_run.proofs.Chosen.{IsVisit, chosen, chosen_once, is_visit, places_mask, places_within, visit_block, visited_passes}
 use Rattle.phase_run.proofs.Loaned.{loan_number, no_piece, pieces_once, pieces_single}
-use Rattle.phase_run.proofs.Numbers.{block_changed, there_changed, there_more}
+use Rattle.phase_run.proofs.Numbers.{block_changed, there_changed}
 use Rattle.phase_run.proofs.Planned.{block_in, bound_there, lawful_types, lent_has, lent_is, lents_none, plan_apart, planned_visited, planned_within, rows_few, written_own}
 use Rattle.phase_run.proofs.Reading.{system_more}
 

@@ -1,5 +1,5 @@
 -- The frozen world of a run: its items, and what comes back.
-use Rattle.std.proofs.Common.{ℕ, ◌≡◌, ◌∙◌, Bool, true, false, not, ◌&&◌, refl, sym, ap, subst, List, length, map, reverse, Option}
+use Rattle.std.proofs.Common.{ℕ, ◌≡◌, ◌∙◌, Bool, true, false, not, refl, sym, ap, subst, List, length, map, reverse, Option}
 use Rattle.std.specs.Prelude.{IsPermutation, is_some, option_and_then}
 use Rattle.std.proofs.lemmas.Bool.{and_parts}
 use Rattle.std.proofs.lemmas.List.{length-map}

@@ -1,5 +1,5 @@
 -- Items that run one after another, the last one first.
-use Rattle.std.proofs.Common.{ℕ, zero, suc, ◌≡◌, ◌∙◌, ◌+◌, ◌≤◌, ◌<◌, refl, sym, ap, ap₂, subst, List, [], ◌∷◌, ◌++◌, length, drop, get_or, reverse, append_assoc, arith}
+use Rattle.std.proofs.Common.{ℕ, zero, suc, ◌≡◌, ◌∙◌, ◌+◌, ◌<◌, refl, sym, ap, ap₂, subst, List, [], ◌∷◌, ◌++◌, length, drop, get_or, reverse, append_assoc, arith}
 use Rattle.std.proofs.lemmas.List.{drop_at, drop_more, length_push, reverse-append}
 use Rattle.chunk_block.specs.Blocks.{LoanState}
 use Rattle.structural_ops.specs.Freezing.{FrozenState}
@@ -30,7 +30,6 @@ module _ (f : FrozenState) (s : SystemEntry) (frame : ℕ) where
   items_drop (suc n) number (v ∷ vs) (l ∷ ls) are =
       let same : (number + 1) + n ≡ number + suc n = omega arith in
       subst (λ k. AreItems f s frame k (drop n vs) (drop n ls)) same (items_drop n (number + 1) vs ls are.1)
-
 
   module _ (vs : List Visit) (lent : List LoanState) (items : AreItems f s frame 0 vs lent) where
     -- nothing has run

@@ -1,4 +1,4 @@
-use Rattle.std.proofs.Common.{ℕ, ◌≡◌, ◌∙◌, ◌+◌, ◌-◌, ◌≤◌, ◌<◌, ap, sym, subst, List, length, get_or, arith}
+use Rattle.std.proofs.Common.{ℕ, ◌≡◌, ◌∙◌, ◌+◌, ◌-◌, ap, sym, subst, List, length, get_or, arith}
 use Rattle.std.proofs.lemmas.List.{length_push}
 use Rattle.chunk_block.specs.Blocks.{LoanState}
 use Rattle.run_model.specs.Job.{texts_of}
@@ -62,7 +62,7 @@ loop-preserved c =
     let count = c.loop.invariant.1 in
     let room = c.loop.invariant.2 in (
       subst (AreRunning f s c.args.frame vs lent left) (sym (ap (λ (l : LoansState). l.loans) c.add.ensures))
-      (one_more f s c.args.frame vs lent c.requires.items c.loop.waiting.loans left c.loop.done.loans loan c.loop.invariant.0 c.take_last-loan.ensures.loans v at new does),
+          (one_more f s c.args.frame vs lent c.requires.items c.loop.waiting.loans left c.loop.done.loans loan c.loop.invariant.0 c.take_last-loan.ensures.loans v at new does),
       omega (arith, fewer, count),
       omega (arith, fewer, spare, room),
     )

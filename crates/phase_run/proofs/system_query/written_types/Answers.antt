@@ -1,9 +1,7 @@
-use Rattle.std.proofs.Common.{◌∙◌, ◌++◌, ◌||◌, map, sym, ap, subst}
-use Rattle.std.proofs.lemmas.List.{map-append}
+use Rattle.std.proofs.Common.{◌∙◌, ◌++◌, ◌||◌, sym, ap, subst}
 use Rattle.ent_types.specs.TypeSets.{has_type}
 use Rattle.world_model.specs.Members.{In}
 use Rattle.world_loans.proofs.Lent.{has_append}
-use Rattle.run_model.specs.Job.{Assigns, Switches, written_type}
 use Rattle.phase_run.specs.Queries.{assigned_types, switched_types}
 use Rattle.phase_run.proofs.Prepared.{bound_small, types_written}
 use Rattle.phase_run.proofs.system_query.written_types.Goals as goal

@@ -1,4 +1,4 @@
-use Rattle.std.proofs.Common.{ℕ, ◌≡◌, ◌∙◌, ◌≤◌, ◌<◌, ap, ap₂, sym, subst, List, length, arith}
+use Rattle.std.proofs.Common.{◌≡◌, ◌∙◌, ap, ap₂, sym, subst, List, length, arith}
 use Rattle.std.specs.Prelude.{⊤}
 use Rattle.world_model.specs.Members.{In, tally}
 use Rattle.world_model.specs.World.{Block}

@@ -1,4 +1,4 @@
-use Rattle.std.proofs.Common.{◌∙◌, ap, sym}
+use Rattle.std.proofs.Common.{◌∙◌, ap}
 use Rattle.structural_ops.specs.Lent.{LoansState}
 use Rattle.phase_run.proofs.Returned.{comes_back, is_plan, items_ready, may_return}
 use Rattle.phase_run.proofs.system_run.run_visits.Goals as goal
