@@ -27,10 +27,13 @@ pub record IsNumbered (w : WorldState) : Type 0 where
 abbrev pub loans_for : List ℕ → List Visit → List (ℕ × List ℕ)
 loans_for types visits = map (λ v. (v.block, types)) visits
 
+abbrev pub visits_in : WorldState → SystemEntry → Option ℕ → List Visit
+visits_in w s last = numbered_visits versions w.world.registry s last w.numbers w.world.blocks
+
 -- the visits of a run of the system, whenever it ran last
 pub record AreVisitsOf (s : SystemEntry) (visits : List Visit) (w : WorldState) : Type 0 where
   pub last : Option ℕ
-  pub are : visits ≡ numbered_visits versions w.world.registry s last w.numbers w.world.blocks
+  pub are : visits ≡ visits_in w s last
 
 -- the plan lends what the system writes of the block of each visit
 pub record LendsWrites (s : SystemEntry) (visits : List Visit) (plan : List (ℕ × List ℕ)) : Type 0 where

@@ -1,11 +1,9 @@
 //! The run of a system on a world.
 ghost use Rattle.std.specs.Prelude.{◌≡◌, ℕ, Option, [], length, IfOk, OnErr, OnOk};
-ghost use Rattle.run_model.specs.Clock.{versions};
 ghost use Rattle.run_laws.specs.Runnable.{SystemRuns};
 ghost use Rattle.query_select.specs.Caches.{IsCacheOf, full_cache};
 ghost use Rattle.query_select.specs.Entries.{unfiltered};
-ghost use Rattle.query_select.specs.Visits.{numbered_visits};
-ghost use Rattle.phase_run.specs.After.{AreVisitsOf, IsNumbered, LendsWrites, ran, rows_ran, world_after};
+ghost use Rattle.phase_run.specs.After.{AreVisitsOf, IsNumbered, LendsWrites, ran, rows_ran, visits_in, world_after};
 ghost use Rattle.phase_run.specs.Queries.{IsQueryOf};
 
 use crate::items::run_items;
@@ -51,8 +49,7 @@ fn run_visits(
     requires plan { LendsWrites system.now visits.now plan.now }
     requires lent { lent ≡ record { loans = []; spare = length visits.now } }
     requires done { done ≡ record { loans = []; spare = length visits.now } }
-    ensures { (last : Option ℕ) → visits.now ≡ numbered_visits versions world.world.registry system.now last world.numbers world.world.blocks
-        → result ≡ rows_ran system.now last frame world }
+    ensures { (last : Option ℕ) → visits.now ≡ visits_in world system.now last → result ≡ rows_ran system.now last frame world }
 {
     world.is_lawful();
     the_rest_reads_as_before(&world);

@@ -2,14 +2,12 @@
 ghost use Rattle.std.specs.Prelude.{◌≡◌, ⊤, IfOk, OnErr, OnOk};
 ghost use Rattle.world_model.specs.Members.{In};
 ghost use Rattle.scenario_record.specs.declared.record.SystemEntry.{SystemEntry};
-ghost use Rattle.run_model.specs.Clock.{versions};
 ghost use Rattle.run_model.specs.LawfulQuery.{IsLawfulFilter};
 ghost use Rattle.query_select.specs.declared.visits.Visit.{Visit as VisitState};
 ghost use Rattle.query_select.specs.Caches.{IsCacheOf, full_cache};
 ghost use Rattle.query_select.specs.Entries.{IsEntryOf, entry_of, last_run, unfiltered};
-ghost use Rattle.query_select.specs.Visits.{numbered_visits};
 ghost use Rattle.structural_ops.specs.Numbered.{HasBlock, with_each};
-ghost use Rattle.phase_run.specs.After.{IsNumbered, loans_for, visit_marked};
+ghost use Rattle.phase_run.specs.After.{IsNumbered, loans_for, visit_marked, visits_in};
 
 use crate::system_query::SystemQuery;
 use ent_types::{Memory, Steps, SystemVersion, TypeSet};
@@ -38,7 +36,7 @@ pub(crate) fn select_visits<L: Ledger>(
     requires filter { IsLawfulFilter world.now.world.registry (entry_of query.now.query query.now.filter) }
     requires cache { IsCacheOf world.now.world.registry (unfiltered query.now.query) world.now.archetypes cache.old }
     ensures ok { IfOk result (λ visits. (s : SystemEntry) → IsEntryOf query.now.query query.now.filter s
-        → visits.items ≡ numbered_visits versions world.now.world.registry s (last_run last.0) world.now.numbers world.now.world.blocks) }
+        → visits.items ≡ visits_in world.now s (last_run last.0)) }
     ensures cache { OnOk result (cache.new ≡ full_cache world.now.world.registry (unfiltered query.now.query) world.now.archetypes) }
     ensures err { OnErr result (cache.new ≡ cache.old) }
 {
