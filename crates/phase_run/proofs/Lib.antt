@@ -1,0 +1,12 @@
+pub mod Reading
+pub mod Numbers
+pub mod Chosen
+pub mod Loaned
+pub mod Planned
+pub mod Ready
+pub mod Ran
+pub mod Marking
+pub mod Prepared
+pub mod Turns
+pub mod Returned
+pub mod Finished
