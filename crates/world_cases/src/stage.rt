@@ -69,12 +69,23 @@ impl Stage {
     pub(crate) fn begin_list(&mut self, alloc: Global, rest: &str) -> Result<(), Fault> {
         let (number, versions) = rest.split_once(' ').ok_or(Fault::Line)?;
         let (entity, system) = versions.split_once(' ').ok_or(Fault::Line)?;
-        self.number = read_u32(number)?;
-        self.begin_world(alloc, read_u32(entity)?, read_u32(system)?)
+        self.begin_world(
+            alloc,
+            read_u32(number)?,
+            read_u32(entity)?,
+            read_u32(system)?,
+        )
     }
 
-    fn begin_world(&mut self, alloc: Global, entity: u32, system: u32) -> Result<(), Fault> {
+    fn begin_world(
+        &mut self,
+        alloc: Global,
+        number: u32,
+        entity: u32,
+        system: u32,
+    ) -> Result<(), Fault> {
         self.world = empty_world(alloc, &self.registry, entity, system)?;
+        self.number = number;
         Ok(())
     }
 }
