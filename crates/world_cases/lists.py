@@ -38,13 +38,11 @@ TYPES = [
 ]
 
 # 31 of these large types fit into a block, and 32 don't.
-LARGE = 33
-LARGE_TYPES = [Type("plain", f"Large{k}", ["i64"] * 64, k == 0) for k in range(LARGE)] + [
-    Type("tag", "Mark", [], False),
-    Type("shared", "Team", ["i32"], False),
-    Type("cleanup", "Grave", ["i32"], False),
-    Type("buffer", "Items", ["i32"], False),
-]
+LARGE_COUNT = 33
+LETTERS = "abcdefgh"
+LARGE_TYPES = [Type("plain", "L" + LETTERS[k // 8] + LETTERS[k % 8], ["i64"] * 64, k == 0) for k in range(LARGE_COUNT)]
+LARGE = range(len(BUILT_IN) + len(TYPES), len(BUILT_IN) + len(TYPES) + LARGE_COUNT)
+ITEMS = 13
 
 
 # The world.
@@ -301,15 +299,6 @@ def rows_of(world, number):
 
 # The lines of the table.
 
-def declared(info):
-    fields = "".join(f" {field_name(at)}:{kind}" for at, kind in enumerate(info.fields))
-    return f"type {info.kind} {info.name}{fields}" + (" enableable" if info.enableable else "")
-
-
-def field_name(at):
-    return chr(ord("a") + at % 26) + (str(at // 26) if at >= 26 else "")
-
-
 def written(value):
     return name_of(value) if isinstance(value, tuple) else str(value)
 
@@ -327,17 +316,12 @@ def part_of(part):
     return f"{ty}=" + ",".join(words)
 
 
-def operand(value):
-    if isinstance(value, int):
-        return str(value)
-    return name_of(value) if isinstance(value[0], int) and isinstance(value[1], int) else part_of(value)
-
-
 def line_of(operation):
+    """`OPERATION ENTITY PART ..`, where the entity of a create is null, and a part that is a type alone has no values."""
     word, *rest = operation
     if word == "create":
-        return " ".join([word] + [part_of(part) for part in rest[0]])
-    return " ".join([word] + [operand(value) for value in rest])
+        return " ".join([word, name_of(NULL)] + [part_of(part) for part in rest[0]])
+    return " ".join([word, name_of(rest[0])] + [f"{what}=" if isinstance(what, int) else part_of(what) for what in rest[1:]])
 
 
 # The lists.
@@ -364,11 +348,11 @@ class Maker:
         info = self.world.types[ty]
         if info.kind == "shared":
             return [self.rng.choice([1, 2]) for _ in info.fields]
-        if info.name.startswith("Large"):
+        if ty in LARGE:
             return [self.rng.randrange(10)] * 64
         if info.kind != "buffer":
             return self.element(ty)
-        if self.sort == "long" and info.name == "Items":
+        if self.sort == "long" and ty == ITEMS:
             return [self.rng.randrange(10)] * (MOST_ELEMENTS - self.rng.randrange(3))
         return [value for _ in range(self.rng.randrange(4)) for value in self.element(ty)]
 
@@ -391,14 +375,13 @@ class Maker:
     def parts(self):
         types = range(len(self.world.types))
         if self.sort == "large":
-            large = range(3, 3 + LARGE)
-            chosen = self.rng.sample(large, self.rng.choice([10, 15, 16, 30, 31, 31, 32, 33]))
-            chosen += [ty for ty in types if ty not in large and self.rng.random() < 0.2]
+            chosen = self.rng.sample(LARGE, self.rng.choice([10, 15, 16, 30, 31, 31, 32, 33]))
+            chosen += [ty for ty in types if ty not in LARGE and ty not in (ITEMS, 3, 6, 11) and self.rng.random() < 0.15]
         else:
             share = self.rng.choice([0.1, 0.3, 0.6])
             chosen = [ty for ty in types if self.rng.random() < (share if ty > PREFAB else 0.1)]
         if self.sort == "long":
-            chosen = sorted({*[ty for ty in chosen if self.rng.random() < 0.3], 13})
+            chosen = sorted({*[ty for ty in chosen if self.rng.random() < 0.3], ITEMS})
         self.rng.shuffle(chosen)
         return [(ty, self.values(ty)) for ty in chosen]
 
@@ -430,7 +413,7 @@ class Maker:
             ty = self.type_at(entity, lambda info: info.kind not in ("shared", "buffer"))
         elif self.sort == "large" and entity in self.world.alive():
             there = self.world.find(entity)[0].types
-            ty = self.rng.choice([ty for ty in range(3, 3 + LARGE) if ty not in there or len(there) < 20])
+            ty = self.rng.choice([ty for ty in LARGE if ty not in there or len(there) < 20])
         else:
             ty = self.rng.choice([self.type_at(entity, lambda info: True), self.rng.randrange(len(self.world.types))])
         return word, entity, (ty, self.values(ty))
@@ -439,27 +422,29 @@ class Maker:
 class Lists:
     def __init__(self):
         self.rng = random.Random(SEED)
-        self.table, self.output = [], []
+        self.table, self.output = ["# The lists of operations. lists.py makes them, and works out what the program must print."], []
         self.count = 0
-        self.answers = collections.Counter()
-        self.dying, self.kinds, self.retired, self.wrapped = collections.Counter(), collections.Counter(), 0, 0
+        self.answers, self.dying, self.kinds = collections.Counter(), collections.Counter(), collections.Counter()
+        self.retired, self.wrapped = 0, 0
 
-    def begin_types(self, types):
-        self.types = BUILT_IN + types
-        self.table += ["types"] + [declared(info) for info in types]
+    def begin(self, types, entity, system):
+        self.count += 1
+        is_large = len(types) > len(TYPES)
+        self.table += ["----", f"{self.count} {'large' if is_large else 'small'} {entity} {system}"]
+        self.head = len(self.table)
+        return World(BUILT_IN + types, entity, system)
 
     def make(self, sort):
-        self.count += 1
         entity = self.rng.choice([1, 1, 1, 7, LAST - 1, LAST])
         system = self.rng.choice([1, 1, 2, LAST - 3, LAST])
-        world = World(self.types, entity, system)
+        world = self.begin(TYPES + (LARGE_TYPES if sort == "large" else []), entity, system)
         maker = Maker(self.rng, world, sort)
-        self.table.append(f"list {self.count} {entity} {system}")
         for at in range(OPERATIONS):
             if self.rng.random() < 0.3:
                 self.wrapped += world.version == LAST
                 world.raise_version()
-                self.table.append("raise")
+                self.table.append("raise 0:0")
+                self.output.append("done")
             operation = maker.operation()
             if at >= OPERATIONS - 8:
                 operation = self.shorten(world) or operation
@@ -488,38 +473,37 @@ class Lists:
         self.dying[operation[0]] += True in targets
         if len(operation) == 3:
             ty = operation[2] if isinstance(operation[2], int) else operation[2][0]
-            self.kinds[operation[0], self.types[ty].kind] += 1
+            self.kinds[operation[0], world.types[ty].kind] += 1
 
     def end(self, world):
-        self.table.append("rows")
         self.output += rows_of(world, self.count)
         self.retired += world.made - len(world.free) - len(world.alive())
 
     def bad_lines(self):
-        """Lines that say nothing that can be done, in a world of one entity that they leave as it is."""
-        self.begin_types(TYPES)
-        self.count += 1
-        world = World(self.types, 1, 1)
-        self.table.append(f"list {self.count} 1 1")
-        parts = [(3, [1, 2]), (9, [1]), (13, [5])]
-        self.table.append(line_of(("create", parts)))
-        self.output.append(world.do(("create", parts)))
+        """Lines that say nothing that can be done, in a world of one entity that they leave as it is, and bad first lines."""
+        world = self.begin(TYPES, 1, 1)
+        create = "create", [(3, [1, 2]), (9, [1]), (ITEMS, [5])]
+        self.table.append(line_of(create))
+        self.output.append(world.do(create))
         for line in BAD_LINES:
             self.table.append(line)
-            self.output.append(f"bad line {len(self.table)}")
+            self.output.append(f"bad line {len(self.table) - self.head + 1}")
         self.end(world)
+        for line in BAD_HEADS:
+            self.table += ["----", line]
+            self.output.append("bad line 1")
 
 
 BAD_LINES = [
-    "destroy", "destroy 0", "destroy 0:", "destroy 0:1:1", "destroy 4294967296:1", "destroy -1:1", "vanish 0:1",
-    "create 3=1", "create 3=1,2,3", "create 3=2147483648,0", "create 3=1,0:1", "create 5=1,1", "create 15=", "create 65536=",
-    "create 3=1,2 3=1,2", "create 3=1,2 3", "create 4=x", "create 4=9223372036854775808", "create 7=1", "create 14=0:1",
-    "create 13=1*4097", "add 0:1 15=1", "add 0:1 13=0:1", "add 0:1", "remove 0:1 15", "remove 0:1 x", "enable 0:1 15",
-    "set 0:1 9=1", "set 0:1 13=1", "set 0:1 3=1", "set_shared 0:1 3=1,2", "set_shared 0:1 9=0:1", "append 0:1 3=1,2",
-    "append 0:1 13=1,2", "append 0:1 13=", "clear 0:1 3", "clear 0:1 15", "list 1 0 1", "list 1 1 0", "list 1 1", "list x 1 1",
-    "type plain Point a:i32", "type plain Empty", "type tag Full a:i32", "type shared Far a:ref", "type cleanup Off enableable",
-    "type buffer Thin", "type odd Odd", "type plain Odd a:u8", "type plain Odd a:i32 a:i32", "type plain 9 a:i32",
+    "", "create", "destroy 0", "destroy 0:", "destroy 0:1:1", "destroy 4294967296:1", "destroy -1:1", "vanish 0:1", "vanish 0:1 3=",
+    "create 0:0 3=1", "create 0:0 3=1,2,3", "create 0:0 3=2147483648,0", "create 0:0 3=1,0:1", "create 0:0 5=1,1",
+    "create 0:0 15=", "create 0:0 65536=", "create 0:0 3=1,2 3=1,2", "create 0:0 3=1,2 3", "create 0:0 4=x",
+    "create 0:0 4=9223372036854775808", "create 0:0 7=1", "create 0:0 14=0:1", "create 0:0 13=1*4097", "create 0:0 13=1*x",
+    "add 0:1", "add 0:1 3=1,2 4=1", "add 0:1 15=1", "add 0:1 13=0:1", "remove 0:1", "remove 0:1 15=", "remove 0:1 x=",
+    "enable 0:1 15=", "set 0:1 9=1", "set 0:1 13=1", "set 0:1 3=1", "set_shared 0:1 3=1,2", "set_shared 0:1 9=0:1",
+    "append 0:1 3=1,2", "append 0:1 13=1,2", "append 0:1 13=", "clear 0:1 3=", "clear 0:1 15=", "destroy 0:1 3=",
 ]
+BAD_HEADS = ["1 small 0 1", "1 small 1 0", "1 small 1", "x small 1 1", "1 large 4294967296 1"]
 
 
 def world_entity(text):
@@ -529,21 +513,15 @@ def world_entity(text):
 
 def main():
     lists = Lists()
-    lists.table += ["# Lists of operations. lists.py makes them, and works out what the program must print."]
-    lists.begin_types(TYPES)
-    for _ in range(312):
-        lists.make("plain")
-    for _ in range(4):
-        lists.make("long")
-    lists.begin_types(LARGE_TYPES)
-    for _ in range(12):
-        lists.make("large")
+    for sort, count in ("plain", 312), ("long", 4), ("large", 12):
+        for _ in range(count):
+            lists.make(sort)
     lists.bad_lines()
     for path, lines in zip(sys.argv[1:3], (lists.table, lists.output)):
         with open(path, "w", encoding="ascii") as file:
             file.write("".join(line + "\n" for line in lines))
     print(f"{lists.count} lists, {sum(lists.answers.values())} operations; {lists.retired} indexes retired; "
-          f"{lists.wrapped} times version 1 follows the last; {len(BAD_LINES)} bad lines")
+          f"{lists.wrapped} times version 1 follows the last; {len(BAD_LINES) + len(BAD_HEADS)} bad lines")
     for word in sorted({word for word, _ in lists.answers}):
         found = {answer: count for (other, answer), count in sorted(lists.answers.items()) if other == word}
         kinds = {kind: count for (other, kind), count in sorted(lists.kinds.items()) if other == word}
