@@ -11,6 +11,7 @@ import sys
 
 SEED = 20240611
 OPERATIONS = 30
+CROWD_OPERATIONS = 200
 LAST = 4_294_967_295
 MOST_ALIVE, MOST_MADE = 1_048_576, 4_194_304
 MOST_ELEMENTS = 4_096
@@ -44,6 +45,9 @@ LARGE_TYPES = [Type("plain", "L" + LETTERS[k // 8] + LETTERS[k % 8], ["i64"] * 6
 LARGE = range(len(BUILT_IN) + len(TYPES), len(BUILT_IN) + len(TYPES) + LARGE_COUNT)
 ITEMS = 13
 
+# The types of lists in which many rows have the same types. Of the first, 14 rows fit into a block; without rounding, without
+# the column of entities, or with 64 bytes more, 15 would fit. Of the second 7 fit, and of the third 10.
+PACKED = [[LARGE[0], LARGE[1], 3, 4, 5, 6], [*LARGE[:4]], [*LARGE[:3], 7, 9]]
 
 # The world.
 
@@ -332,6 +336,8 @@ class Maker:
     def __init__(self, rng, world, sort):
         self.rng, self.world, self.sort = rng, world, sort
         self.known = [NULL]
+        self.removed = None
+        self.packed = rng.choice(PACKED) if sort == "packed" else [7]
 
     def ref(self):
         near = (self.rng.randrange(8), self.rng.randrange(3))
@@ -374,7 +380,9 @@ class Maker:
 
     def parts(self):
         types = range(len(self.world.types))
-        if self.sort == "large":
+        if self.sort in ("packed", "crowd"):
+            chosen = self.packed[:]
+        elif self.sort == "large":
             chosen = self.rng.sample(LARGE, self.rng.choice([10, 15, 16, 30, 31, 31, 32, 33]))
             chosen += [ty for ty in types if ty not in LARGE and ty not in (ITEMS, 3, 6, 11) and self.rng.random() < 0.15]
         else:
@@ -391,6 +399,8 @@ class Maker:
                       "disable": 4, "append": 4, "clear": 1},
             "large": {"create": 3, "destroy": 3, "instantiate": 1, "add": 6, "remove": 3, "set": 2, "set_shared": 1, "enable": 1,
                       "disable": 2, "append": 1, "clear": 1},
+            "packed": {"create": 3, "destroy": 4, "instantiate": 14, "remove": 1, "set_shared": 1},
+            "crowd": {"destroy": 1, "instantiate": 12},
             "long": {"create": 1, "destroy": 2, "instantiate": 1, "add": 1, "remove": 1, "set": 1, "append": 12, "clear": 2},
         }[self.sort]
         word = self.rng.choices(list(chosen), chosen.values())[0] if self.world.alive() else "create"
@@ -399,8 +409,14 @@ class Maker:
         entity = self.target()
         if word in ("destroy", "instantiate"):
             return word, entity
+        if word == "add" and self.removed and self.rng.random() < 0.2:
+            entity, ty = self.removed
+            return word, entity, (ty, self.values(ty))
         if word == "remove":
-            return word, entity, self.type_at(entity, lambda info: True)
+            off = [ty for block in self.world.blocks for row in block.rows if row.entity == entity for ty in row.off]
+            ty = off[0] if off and self.rng.random() < 0.5 else self.type_at(entity, lambda info: True)
+            self.removed = entity, ty
+            return word, entity, ty
         if word in ("enable", "disable"):
             often = self.rng.random() < 0.6
             return word, entity, self.type_at(entity, lambda info: info.enableable or not often)
@@ -437,16 +453,17 @@ class Lists:
     def make(self, sort):
         entity = self.rng.choice([1, 1, 1, 7, LAST - 1, LAST])
         system = self.rng.choice([1, 1, 2, LAST - 3, LAST])
-        world = self.begin(TYPES + (LARGE_TYPES if sort == "large" else []), entity, system)
+        world = self.begin(TYPES + (LARGE_TYPES if sort in ("large", "packed") else []), entity, system)
         maker = Maker(self.rng, world, sort)
-        for at in range(OPERATIONS):
+        count = CROWD_OPERATIONS if sort == "crowd" else OPERATIONS
+        for at in range(count):
             if self.rng.random() < 0.3:
                 self.wrapped += world.version == LAST
                 world.raise_version()
                 self.table.append("raise 0:0")
                 self.output.append("done")
             operation = maker.operation()
-            if at >= OPERATIONS - 8:
+            if at >= count - 8:
                 operation = self.shorten(world) or operation
             self.do(world, maker, operation)
         self.end(world)
@@ -513,7 +530,7 @@ def world_entity(text):
 
 def main():
     lists = Lists()
-    for sort, count in ("plain", 312), ("long", 4), ("large", 12):
+    for sort, count in ("plain", 312), ("long", 4), ("large", 12), ("packed", 8), ("crowd", 1):
         for _ in range(count):
             lists.make(sort)
     lists.bad_lines()
