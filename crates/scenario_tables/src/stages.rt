@@ -1,4 +1,4 @@
-//! The keys that place groups and systems, and those that aren't run yet.
+//! The keys that place groups and systems, and the key that isn't run yet.
 ghost use Rattle.std.specs.Prelude.{◌≡◌, map};
 ghost use Rattle.toml.specs.Data.{get_member};
 ghost use Rattle.toml.specs.View.{view, items_view, table_view};
@@ -10,30 +10,8 @@ use toml::{Table, Value};
 /// The keys that place a system.
 const PLACING: [&str; 5] = ["group", "before", "after", "first", "last"];
 
-/// The keys at the top that aren't run yet.
-const AT_TOP: [&str; 2] = ["first_system_version", "first_entity_version"];
-
-/// The key of a type that isn't run yet.
-const IN_A_TYPE: [&str; 1] = ["enableable"];
-
-/// The key of a spawn that isn't run yet.
-const IN_A_SPAWN: [&str; 1] = ["disabled"];
-
-/// The keys of a system that aren't run yet.
-const IN_A_SYSTEM: [&str; 12] = [
-    "every",
-    "any",
-    "none",
-    "disabled",
-    "absent",
-    "include_disabled",
-    "include_prefab",
-    "changed",
-    "order_changed",
-    "shared",
-    "enable",
-    "command",
-];
+/// The key of a system that isn't run yet.
+const COMMANDS: [&str; 1] = ["command"];
 
 /// `true` if a table has a key.
 fn has_key(table: &Table, key: &str) -> bool
@@ -93,11 +71,9 @@ pub(crate) fn is_placed(table: &Table) -> bool
     has_key(table, "group") || in_list(table, "system", &PLACING)
 }
 
-/// `true` if some other key is there that isn't run yet.
+/// `true` if some system has the key that isn't run yet.
 pub(crate) fn is_unbuilt(table: &Table) -> bool
     ensures { result ≡ is_unbuilt (table_view table.now) }
 {
-    has_any(table, &AT_TOP)
-        || (in_list(table, "type", &IN_A_TYPE)
-            || (in_list(table, "spawn", &IN_A_SPAWN) || in_list(table, "system", &IN_A_SYSTEM)))
+    in_list(table, "system", &COMMANDS)
 }
