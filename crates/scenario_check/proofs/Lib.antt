@@ -1,3 +1,2 @@
-pub mod BuiltLemmas
 pub mod ChildLemmas
 pub mod OrderLemmas

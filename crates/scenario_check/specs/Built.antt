@@ -1,50 +1,20 @@
 -- Which scenarios are of a form that is run.
-use Rattle.std.specs.Prelude.{ℕ, Bool, true, false, not, ◌&&◌, ◌||◌, ◌==◌, nat_lt, List, length, drop, map, flat_map}
-use Rattle.std.specs.List.{list_any, list_all}
-use Rattle.ent_types.specs.declared.entity.TheConstants.{BUILT_IN_TYPES}
-use Rattle.ent_types.specs.declared.kinds.Kind.{Kind}
-use Rattle.ent_types.specs.declared.kinds.Kind.TheVariants.{Plain, Tag, Shared, Cleanup, Buffer}
-use Rattle.ent_types.specs.declared.type_info.TypeInfo.{TypeInfo}
+use Rattle.std.specs.Prelude.{Bool, true, false, not, ◌&&◌, ◌==◌, length}
+use Rattle.std.specs.List.{list_all}
+use Rattle.scenario_record.specs.declared.record.EventAct.{EventAct}
+use Rattle.scenario_record.specs.declared.record.EventAct.TheVariants.{Operate, Load, Unload}
 use Rattle.scenario_record.specs.declared.record.Scenario.{Scenario}
-use Rattle.scenario_record.specs.declared.record.SpawnEntry.{SpawnEntry}
 use Rattle.scenario_record.specs.declared.record.SystemEntry.{SystemEntry}
-use Rattle.scenario_record.specs.Uses.{uses_of_assigns}
-use Rattle.scenario_faults.specs.Found.{tested_types}
 
--- ---- types
-
-abbrev pub is_built_kind : Kind → Bool
-is_built_kind Plain = true
-is_built_kind Tag = true
-is_built_kind Shared = false
-is_built_kind Cleanup = false
-is_built_kind Buffer = false
-
--- the declared types come after the built-in ones
-abbrev pub are_built_types : List TypeInfo → Bool
-are_built_types registry = list_all (λ t. is_built_kind t.kind) (drop BUILT_IN_TYPES registry)
-
--- ---- the built-in tags: type 0 is `Disabled`, and type 1 is `Prefab`
-
-abbrev pub is_built_in_tag : ℕ → Bool
-is_built_in_tag ty = nat_lt ty 2
-
-abbrev pub names_built_in : List ℕ → Bool
-names_built_in types = list_any is_built_in_tag types
-
--- the types that the assignments of a system name by `has` and `on`
-abbrev pub tested_by : SystemEntry → List ℕ
-tested_by y = flat_map tested_types (uses_of_assigns y)
-
-abbrev pub is_built_spawn : SpawnEntry → Bool
-is_built_spawn p = not (names_built_in (map (λ part. part.ty.0) p.parts))
-
+-- whether a system records no command
 abbrev pub is_built_system : SystemEntry → Bool
-is_built_system y = not (names_built_in y.all || names_built_in (tested_by y))
+is_built_system y = length y.command == 0
 
--- ---- the whole
+-- whether an event is a structural change
+abbrev pub is_built_act : EventAct → Bool
+is_built_act (Operate change) = true
+is_built_act (Load file label delay) = false
+is_built_act (Unload label) = false
 
 unfoldable pub is_built : Scenario → Bool
-is_built s =
-    not s.unbuilt && (are_built_types s.registry && (length s.event == 0 &&
-    (list_all is_built_spawn s.spawn && list_all is_built_system s.system)))
+is_built s = not s.unbuilt && (list_all is_built_system s.system && list_all (λ e. is_built_act e.act) s.event)
