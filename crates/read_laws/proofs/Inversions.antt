@@ -1,5 +1,5 @@
 -- What is known of a reading that gave a value: the parts of it gave values, too.
-use Rattle.std.proofs.Common.{ℕ, ◌≡◌, ◌≤◌, ◌<◌, ◌+◌, List, [], ◌∷◌, Bool, true, false, cond, ◌&&◌, length, Option, None, Some, is_some, Ok, Err, refl, sym, ap, ◌∙◌, subst, arith}
+use Rattle.std.proofs.Common.{ℕ, ◌≡◌, ◌≤◌, ◌<◌, ◌+◌, List, [], ◌∷◌, Bool, true, false, cond, ◌&&◌, length, Option, None, Some, Ok, Err, refl, sym, ap, ◌∙◌, subst, arith}
 use Rattle.std.specs.Prelude.{nat_le, nat_lt, pos, negsuc}
 use Rattle.std.specs.List.{AllByRecursion as Each}
 use Rattle.std.proofs.lemmas.Bool.{leb-true, ltb-false, and_parts}
@@ -59,11 +59,6 @@ module _ {A : Type 0} where
 
   pub required_found : (key : List ℕ) (read : Data → Reading A) (ms : Members) (x : A) → required key read ms ≡ Ok x → (d : Data) × (read d ≡ Ok x)
   required_found key read ms x is = required_ok key read (get_member key ms) x is
-
-  -- a key that isn't there has its default
-  pub default_ok : (key : List ℕ) (default : A) (read : Data → Reading A) (found : Option Data) (x : A) → is_some found ≡ false → value_or key default read found ≡ Ok x → x ≡ default
-  default_ok key default read None x absent is = sym cc
-  default_ok key default read (Some d) x absent is = absurd cc
 
   -- a test that passes
   pub fault_ok : (b : Bool) (cause : Cause) (next : Reading A) (y : A) → unless (fault_if b cause) next ≡ Ok y → (b ≡ false) × (next ≡ Ok y)
