@@ -1,5 +1,6 @@
 pub mod Kept
 mod Members
+pub mod Forms
 mod Faults
 mod TextReads
 mod Suits

@@ -1,5 +1,5 @@
 -- A scenario that is read and passes its checks can be run.
-use Rattle.std.proofs.Common.{ℕ, ◌≡◌, ◌≤◌, ◌+◌, List, [], ◌∷◌, Bool, true, false, cond, not, ◌&&◌, None, Some, Ok, refl, arith}
+use Rattle.std.proofs.Common.{ℕ, ◌≡◌, ◌≤◌, ◌+◌, List, [], ◌∷◌, Bool, true, false, cond, None, Some, Ok, refl, arith}
 use Rattle.std.specs.Prelude.{nat_lt, codes}
 use Rattle.std.specs.List.{sum_by}
 use Rattle.std.proofs.lemmas.Bool.{ltb-false}
@@ -10,15 +10,12 @@ use Rattle.scenario_record.specs.declared.record.Scenario.{Scenario}
 use Rattle.scenario_record.specs.declared.record.SpawnEntry.{SpawnEntry}
 use Rattle.scenario_record.specs.Faults.{bad}
 use Rattle.scenario_record.specs.Lawful.{IsLawfulScenario, IsLawfulSpawn, IsLawfulSystem, IsLawfulEvent}
-use Rattle.scenario_record.specs.Runnable.{IsRunnable as CanBeRun}
 use Rattle.scenario_read.specs.ReadScenario.{scenario_of}
 use Rattle.scenario_faults.specs.Checks.{at_element, crowded_from, first_fault}
 use Rattle.scenario_check.specs.Planned.{checked}
-use Rattle.scenario_check.specs.Built.{is_built}
 use Rattle.read_laws.proofs.Scenarios.{is_lawful_scenario}
 use Rattle.run_laws.specs.Runnable.{IsRunnable}
 use Rattle.scenario_laws.proofs.Faults.{no_fault, no_spawn_fault, not_crowded, no_lookup_fault}
-use Rattle.scenario_laws.proofs.Kept.{begins_with_one}
 use Rattle.scenario_laws.proofs.Members.{of_all}
 use Rattle.scenario_laws.proofs.SpawnsRun.{spawn_runs, act_runs}
 use Rattle.scenario_laws.proofs.SystemsRun.{system_runs}
@@ -57,24 +54,3 @@ runnable s lawful clear = record {
 
 pub is_runnable : (bytes : List ℕ) (s : Scenario) (p : Plan) → scenario_of bytes ≡ Ok s → checked s ≡ Ok p → IsRunnable s
 is_runnable bytes s p read passes = runnable s (is_lawful_scenario bytes s read) (no_fault s p passes)
-
--- ---- a form that was run before
-
-unmarked : (unbuilt rest : Bool) → (not unbuilt && rest) ≡ true → unbuilt ≡ false
-unmarked true rest is = absurd cc
-unmarked false rest is = refl
-
-is_built-unmarked : (s : Scenario) → is_built s ≡ true → s.unbuilt ≡ false
-unfolding is_built
-is_built-unmarked s is = unmarked s.unbuilt _ is
-
-pub can_be_run : (bytes : List ℕ) (s : Scenario) (p : Plan) → scenario_of bytes ≡ Ok s → checked s ≡ Ok p → is_built s ≡ true → CanBeRun s
-can_be_run bytes s p read passes built =
-    let lawful = is_lawful_scenario bytes s read in
-    let rows = few_rows 0 0 s.spawn (omega arith) (not_crowded s (no_fault s p passes)) in
-    record {
-      frames = lawful.frames;
-      systems = lawful.system_few;
-      entities = omega (arith, rows);
-      first = begins_with_one bytes s read (is_built-unmarked s built);
-    }
