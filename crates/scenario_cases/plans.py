@@ -13,8 +13,6 @@ BUILT_IN = ["Disabled", "Prefab", "SceneTag"]
 POINTS_BEFORE = ["BeginInitialization", "EndInitialization", "BeginSimulation"]
 POINTS_AFTER = ["EndSimulation", "BeginPresentation"]
 PLACING = {"group", "before", "after", "first", "last"}
-NOT_RUN_IN_A_SYSTEM = {"every", "any", "none", "disabled", "absent", "include_disabled", "include_prefab", "changed",
-                       "order_changed", "shared", "enable", "command"}
 
 
 def texts_of(system):
@@ -41,18 +39,8 @@ def numbers(text, scenario):
     systems = scenario.get("system", [])
     spawns = scenario.get("spawn", [])
     placed = "group" in scenario or any(PLACING & set(system) for system in systems)
-    unbuilt = (any(key in scenario for key in ("first_system_version", "first_entity_version"))
-               or any("enableable" in info for info in types)
-               or any("disabled" in spawn for spawn in spawns)
-               or any(NOT_RUN_IN_A_SYSTEM & set(system) for system in systems))
-    tags = {"Disabled", "Prefab"}
-    tested = r"\b(?:on\s*\(|has\s*\([^,]*,)\s*(Disabled|Prefab)\b"
-    runs = (not unbuilt
-            and all(info.get("kind", "plain") in ("plain", "tag") for info in types)
-            and not scenario.get("event")
-            and not any(tags & set(spawn.get("with", {})) for spawn in spawns)
-            and not any(tags & set(system.get("all", [])) for system in systems)
-            and not any(re.search(tested, text) for system in systems for text in system.get("set", [])))
+    unbuilt = any("command" in system for system in systems)
+    runs = not unbuilt and all("do" in event for event in scenario.get("event", []))
     yield (f"frames={scenario['frames']} versions={scenario.get('first_system_version', 1)},"
            f"{scenario.get('first_entity_version', 1)}")
     yield (f"types={len(types) + len(BUILT_IN)} spawns={len(spawns)} groups={len(scenario.get('group', []))} "

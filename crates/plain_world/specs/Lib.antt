@@ -1,9 +1,0 @@
-pub mod World
-pub mod Fields
-pub mod Seen
-pub mod Run
-pub mod Plain
-pub mod Evaluated
-pub mod Placed
-pub mod NewRows
-pub mod Passing
