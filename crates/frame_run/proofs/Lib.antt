@@ -1,0 +1,5 @@
+mod Simply
+mod Courses
+mod Files
+mod Whole
+mod Found
