@@ -6,7 +6,9 @@ ghost use Rattle.entsim_commands.specs.Outcome.{command_outcome, outcome};
 ghost use Rattle.entsim_commands.specs.Headline.{Ends, OfCommand, WordsDecide};
 
 use ent_io::{Gate, Sink, Status, Store};
-use entsim_commands::{Command, Refusal, check_call, read_words, refuse, refuse_words, run_call};
+use entsim_commands::{
+    Command, Refusal, check_call, layout_call, read_words, refuse, refuse_words, run_call,
+};
 use std::alloc::Global;
 use std::sync::Wait;
 use std::thread::Threads;
@@ -14,9 +16,10 @@ use std::thread::Threads;
 /// Does the command that the words name, over the files of the store, and writes its text to the sink.
 ///
 /// Whatever scenario files are read, with any number of workers and in whatever order they claim blocks, the text
-/// written and the status are those of the plain world. `run FILE` with one worker and `check FILE` are built, for the
-/// forms that `docs/SCENARIO.md` describes. Every other command is `Refused` with the cause NotBuilt before anything is
-/// read, and the run of a scenario of another form after all its other faults.
+/// written and the status are those of the defined run. `run FILE` with one worker, also with `--trace`, `check FILE` and
+/// `layout FILE` are built. Every other command is `Refused` with the cause NotBuilt before anything is read. A scenario in
+/// which a system has commands, or an event loads or unloads a scene, is checked, but its run and its layout are `Refused`
+/// with that cause after all its other faults.
 ///
 /// `BadWords` comes if and only if the words aren't a command. A command that is built is `Refused` if and only if the file
 /// is absent, longer than 1 MiB, invalid, or of a form that isn't run yet. `ReadFault` comes only if the store's count of
@@ -55,7 +58,7 @@ fn obey<S: Store, W: Sink>(alloc: Global, command: Command, store: &mut S, out: 
             trace,
         } => run_call(alloc, file, workers, trace, store, out),
         Command::Check { file } => check_call(alloc, file, store, out),
-        Command::Layout { .. } => refuse(alloc, &Refusal::NotBuilt, out),
+        Command::Layout { file } => layout_call(alloc, file, store, out),
         Command::Plan { .. } => refuse(alloc, &Refusal::NotBuilt, out),
         Command::Dump { .. } => refuse(alloc, &Refusal::NotBuilt, out),
         Command::Make { .. } => refuse(alloc, &Refusal::NotBuilt, out),

@@ -1,7 +1,7 @@
 -- A scenario of a form that is built is a simple one: its run has no command buffers and no scenes.
-use Rattle.std.proofs.Common.{◌≡◌, List, [], ◌∷◌, Bool, true, not, length, eqb, inl, inr, ap, ◌∙◌, refl}
+use Rattle.std.proofs.Common.{◌≡◌, List, [], ◌∷◌, Bool, true, not, length, eqb, inl, inr, ap, ◌∙◌, refl, arith}
 use Rattle.std.specs.List.{list_all}
-use Rattle.std.proofs.lemmas.Bool.{and_parts}
+use Rattle.std.proofs.lemmas.Bool.{and_parts, eqb-true}
 use Rattle.world_model.specs.Members.{In}
 use Rattle.scenario_record.specs.declared.record.EventAct.{EventAct}
 use Rattle.scenario_record.specs.declared.record.EventAct.TheVariants.{Operate, Load, Unload}
@@ -17,7 +17,7 @@ passes p x (y ∷ ys) all (inr i) = passes p x ys (and_parts (p y) (list_all p y
 
 none_left : {A : Type 0} (xs : List A) → eqb (length xs) 0 ≡ true → xs ≡ []
 none_left [] is = refl
-none_left (x ∷ xs) is = absurd cc
+none_left (x ∷ xs) is = let none : length (x ∷ xs) ≡ 0 = eqb-true _ _ is in absurd (omega (arith, none))
 
 operates : (act : EventAct) → is_built_act act ≡ true → IsOperation act
 operates (Operate c) is = tt

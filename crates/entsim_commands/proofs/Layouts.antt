@@ -1,17 +1,16 @@
 -- A layout shows no version, so the code's world after the spawns has the layout of the defined one.
-use Rattle.std.proofs.Common.{◌≡◌, ℕ, ◌+◌, ◌≤◌, Bool, false, List, [], ◌∷◌, ◌++◌, length, map, refl, sym, ap, ap₂, ◌∙◌, length-map, arith}
+use Rattle.std.proofs.Common.{◌≡◌, ℕ, ◌+◌, false, List, [], ◌∷◌, ◌++◌, length, map, refl, ap, ap₂, ◌∙◌, arith}
+use Rattle.std.proofs.lemmas.List.{length-map}
 use Rattle.ent_types.specs.declared.type_info.TypeInfo.{TypeInfo}
 use Rattle.system_version.specs.Versions.{version_of}
 use Rattle.world_model.specs.World.{Block, World, capacity, empty_world}
 use Rattle.world_model.specs.Versions.{block_versions, world_versions}
 use Rattle.scenario_record.specs.declared.record.Scenario.{Scenario}
-use Rattle.run_model.specs.Clock.{versions}
 use Rattle.run_model.specs.Frames.{End, Finished, AtSharedKey, end_of_run}
 use Rattle.run_model.specs.Outcome.{first_moment, outcome}
-use Rattle.run_model.specs.Steps.{IsOrdered, children_of, steps_of}
+use Rattle.run_model.specs.Steps.{IsOrdered, children_of}
 use Rattle.run_model.specs.Tasks.{spawned}
 use Rattle.run_laws.specs.Runnable.{IsRunnable}
-use Rattle.run_laws.specs.Versions.{end_versions}
 use Rattle.run_laws.proofs.RunVersions.{run_turned}
 use Rattle.world_text.specs.Layout.{block_line, block_lines, layout_line, layout_text}
 use Rattle.frame_run.specs.Stages.{no_files}
@@ -25,7 +24,7 @@ module _ (version : ℕ → ℕ) where
   layout_unchanged : (w : World) → layout_text (world_versions version w) ≡ layout_text w
   unfolding layout_text
   layout_unchanged w =
-      ap₂ (λ (n : ℕ) (rest : List ℕ). layout_line n ++ rest) (length-map (block_versions version) w.blocks) (lines_unchanged w.registry 0 w.blocks)
+      ap₂ (λ (n : ℕ) (rest : List ℕ). layout_line n ++ rest) (length-map w.blocks (block_versions version)) (lines_unchanged w.registry 0 w.blocks)
 
 -- ---- the world after the spawns, which is the one of a run of no frames
 
@@ -47,6 +46,7 @@ unfolding spawned end_of_run outcome
 spawned_turned s runnable ordered =
     ap last_world (run_turned false no_files (without_frames s) runnable.first_system_version (still_ordered s ordered) (omega arith) runnable.few_systems)
 
-pub layout_of_spawned : (s : Scenario) → IsRunnable s → IsOrdered s → layout_text (spawned (capacity s.registry) s s.first_system_version) ≡ layout_after_spawns s
-layout_of_spawned s runnable ordered =
-    ap layout_text (spawned_turned s runnable ordered) ∙ layout_unchanged (version_of s.first_system_version) (spawned (capacity s.registry) s first_moment)
+pub layout_of_spawned : (s : Scenario) → IsRunnable s → IsOrdered s → (code : World) → code ≡ spawned (capacity s.registry) s s.first_system_version
+    → layout_text code ≡ layout_after_spawns s
+layout_of_spawned s runnable ordered code is =
+    ap layout_text (is ∙ spawned_turned s runnable ordered) ∙ layout_unchanged (version_of s.first_system_version) (spawned (capacity s.registry) s first_moment)

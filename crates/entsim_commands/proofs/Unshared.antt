@@ -1,5 +1,5 @@
 -- A simple run plays no command buffer, so it never ends at a shared key.
-use Rattle.std.proofs.Common.{◌≡◌, ℕ, Bool, true, false, if◌then◌else◌, List, [], ◌∷◌, ◌++◌, map, filter, fold, inl, inr, Option, Some, None, refl, sym, ap, ap₂, ◌∙◌, slice_get, zero, suc}
+use Rattle.std.proofs.Common.{◌≡◌, ℕ, Bool, true, false, if◌then◌else◌, List, [], ◌∷◌, ◌++◌, map, filter, fold, inl, inr, Option, Some, None, refl, sym, ap₂, ◌∙◌, slice_get, zero, suc}
 use Rattle.std.specs.List.{flat_map, range_with_len}
 use Rattle.ent_io.specs.declared.end.Status.TheVariants.{Done}
 use Rattle.world_model.specs.Members.{In}
@@ -13,7 +13,7 @@ use Rattle.run_model.specs.Job.{others_in}
 use Rattle.run_model.specs.Loads.{SceneFile}
 use Rattle.run_model.specs.Run.{Entry, MatchedRow, entries_at, matched, recorded_of, run}
 use Rattle.run_model.specs.Tasks.{FrameEvent, Operates, Loads, Unloads, FrameStep, DoesEvents, Plays, Runs, Task, frame_steps_of, run_step, runs_in, tasks_of}
-use Rattle.run_model.specs.Frames.{Buffer, Course, Goes, Stops, State, after_buffers, buffers_of, course_after, course_after_all, end_of, end_of_run, event_done, last_run, raised, started, step_done, waits_at}
+use Rattle.run_model.specs.Frames.{Buffer, Course, Goes, Stops, State, after_buffers, buffers_of, course_after, course_after_all, end_of, end_of_run, event_done, last_run, started, step_done, waits_at}
 use Rattle.run_model.specs.Outcome.{first_moment, outcome}
 use Rattle.run_model.specs.Steps.{steps_of}
 use Rattle.frame_run.specs.Ending.{end_status}

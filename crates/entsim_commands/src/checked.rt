@@ -8,9 +8,7 @@ use crate::stop::Stop;
 use ent_io::{Store, read_whole};
 use ent_types::limits::LONGEST_SCENARIO;
 use scenario_check::check;
-use scenario_laws::{
-    what_is_read_can_be_checked, what_passes_is_ordered, what_passes_is_runnable,
-};
+use scenario_laws::{what_is_read_can_be_checked, what_passes_is_ordered, what_passes_is_runnable};
 use scenario_read::read_scenario;
 use scenario_record::{Plan, Scenario};
 use std::alloc::Global;

@@ -3,10 +3,11 @@ ghost use Rattle.std.specs.Prelude.{◌≡◌};
 ghost use Rattle.ent_io.specs.End.{Causes};
 ghost use Rattle.ent_io.specs.Status.{StatusCauses};
 ghost use Rattle.ent_io.specs.Text.{Writes};
+ghost use Rattle.run_model.specs.Steps.{IsOrdered};
 ghost use Rattle.run_laws.specs.Runnable.{IsRunnable};
 ghost use Rattle.entsim_commands.specs.CheckLine.{ok_line};
 ghost use Rattle.entsim_commands.specs.Headline.{Ends, OfCommand};
-ghost use Rattle.entsim_commands.specs.Outcome.{check_outcome, layout_after_spawns, layout_outcome, run_outcome};
+ghost use Rattle.entsim_commands.specs.Outcome.{check_outcome, layout_after_spawns, layout_outcome, run_outcome, whole};
 ghost use Rattle.entsim_commands.specs.Passed.{HasPassed};
 
 use crate::check_line::ok_line;
@@ -21,7 +22,7 @@ use std::alloc::Global;
 use world_spawns::spawned;
 use world_text::write_layout;
 
-/// Runs a scenario on one thread, and writes the lines of its run.
+/// Runs a scenario on one thread, and writes the lines of its run, if the scenario is of a form that is run.
 pub fn run_checked<S: Store, W: Sink>(
     alloc: Global,
     checked: &Checked,
@@ -69,7 +70,8 @@ fn write_layout_after_spawns<W: Sink>(
     scenario: &Scenario,
     out: &mut W,
 ) -> Result<(), End>
-    requires { IsRunnable scenario.now }
+    requires runnable { IsRunnable scenario.now }
+    requires ordered { IsOrdered scenario.now }
     ensures text { Writes result (layout_after_spawns scenario.now) (W.text out.old) (W.text out.new) }
     ensures causes { Causes result 0 0 (W.faults out.old) (W.faults out.new) }
 {
@@ -81,6 +83,20 @@ fn write_layout_after_spawns<W: Sink>(
 }
 
 /// Writes the blocks of a scenario's world after its spawns.
+fn show_layout<W: Sink>(alloc: Global, scenario: &Scenario, out: &mut W) -> Status
+    requires runnable { IsRunnable scenario.now }
+    requires ordered { IsOrdered scenario.now }
+    ensures headline { Ends (whole (layout_after_spawns scenario.now)) result (W.text out.old) (W.text out.new) }
+    ensures words { OfCommand result }
+    ensures causes { StatusCauses result 0 0 (W.faults out.old) (W.faults out.new) }
+{
+    match write_layout_after_spawns(alloc, scenario, out) {
+        Ok(()) => Status::Done,
+        Err(end) => Status::from(end),
+    }
+}
+
+/// Writes the blocks of a scenario's world after its spawns, if the scenario is of a form that is run.
 pub fn layout_checked<W: Sink>(alloc: Global, checked: &Checked, out: &mut W) -> Status
     requires { HasPassed checked.now }
     ensures headline { Ends (layout_outcome checked.now) result (W.text out.old) (W.text out.new) }
@@ -90,8 +106,5 @@ pub fn layout_checked<W: Sink>(alloc: Global, checked: &Checked, out: &mut W) ->
     if !is_built(&checked.scenario) {
         return refuse(alloc, &Refusal::NotBuilt, out);
     }
-    match write_layout_after_spawns(alloc, &checked.scenario, out) {
-        Ok(()) => Status::Done,
-        Err(end) => Status::from(end),
-    }
+    show_layout(alloc, &checked.scenario, out)
 }

@@ -1,3 +1,0 @@
-use Rattle.entsim_commands.proofs.Ends.{told_made, told_stopped}
-use Rattle.entsim_commands.proofs.calls.check_call.Goals as goal
-
