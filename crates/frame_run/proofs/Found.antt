@@ -1,6 +1,9 @@
 -- Runners by the numbers of their systems.
-use Rattle.std.proofs.Common.{◌≡◌, ℕ, zero, suc, nat_eq, Bool, true, false, List, [], ◌∷◌, ◌++◌, map, length, Option, Some, None, refl, sym, ap, ap₂, ◌∙◌, subst, slice_get, inl, inr}
+use Rattle.std.proofs.Common.{◌≡◌, ℕ, ◌+◌, ◌⊎◌, zero, suc, nat_eq, Bool, true, false, List, [], ◌∷◌, ◌++◌, map, length, Option, Some, None, refl, sym, ap, ap₂, ◌∙◌, subst, slice_get, inl, inr}
 use Rattle.std.specs.Prelude.{slice_set, replicate, unwrap_or}
+use Rattle.std.proofs.lemmas.List.{length_push}
+use Rattle.world_model.specs.Members.{In}
+use Rattle.world_laws.proofs.Members.{in_append}
 use Rattle.ent_types.specs.declared.type_info.TypeInfo.{TypeInfo}
 use Rattle.scenario_record.specs.declared.record.SystemEntry.{SystemEntry}
 use Rattle.query_select.specs.Caches.{CacheState, IsCacheOf}
@@ -85,3 +88,48 @@ pub first_is : (s : Scenario) (w : WorldState) (rs : List Runner) → w.world �
     → stage_of w rs ≡ first_stage s
 first_is s w rs made count never =
     ap₂ (λ (u : World) (ls : List (Option ℕ)). (let g : Stage = record { world = u; lasts = ls } in g)) made (all_alike rs never ∙ ap (λ n. replicate n None) count)
+
+-- ---- runners made one after another
+
+module _ {A : Type 0} where
+  got_pushed : (xs : List A) (x : A) (n : ℕ) (y : A) → slice_get (xs ++ x ∷ []) n ≡ Some y → (slice_get xs n ≡ Some y) ⊎ ((n ≡ length xs) × (y ≡ x))
+  got_pushed [] x zero y e = let same : x ≡ y = cc in inr (refl, sym same)
+  got_pushed [] x (suc n) y e = cc
+  got_pushed (z ∷ zs) x zero y e = inl e
+  got_pushed (z ∷ zs) x (suc n) y e = by (got_pushed zs x n y e)
+    where
+      by : (slice_get zs n ≡ Some y) ⊎ ((n ≡ length zs) × (y ≡ x)) → (slice_get zs n ≡ Some y) ⊎ ((suc n ≡ suc (length zs)) × (y ≡ x))
+      by (inl there) = inl there
+      by (inr (last, same)) = inr (ap suc last, same)
+
+module _ (registry : List TypeInfo) (ss : List SystemEntry) where
+  -- the first of them
+  pub record AreFirst (rs : List Runner) (k : ℕ) : Type 0 where
+    pub count : length rs ≡ k
+    pub each : (archetypes : List (List ℕ)) (n : ℕ) (s : SystemEntry) (r : Runner) → slice_get ss n ≡ Some s → slice_get rs n ≡ Some r → IsRunnerOf registry archetypes s r
+    pub never : never_ran rs
+
+  pub no_runner : AreFirst [] 0
+  no_runner = record { count = refl; each = λ archetypes n s r i j. cc; never = λ r i. absurd i }
+
+  pub one_runner : (rs : List Runner) (k : ℕ) (s : SystemEntry) (r : Runner) → AreFirst rs k → slice_get ss k ≡ Some s
+      → ((archetypes : List (List ℕ)) → IsRunnerOf registry archetypes s r) → r.last.0 ≡ 0 → AreFirst (rs ++ r ∷ []) (k + 1)
+  one_runner rs k s r h there is fresh = record {
+    count = length_push rs r ∙ ap (λ n. n + 1) h.count;
+    each = λ archetypes n t q i j. by archetypes n t q i (got_pushed rs r n q j);
+    never = λ q i. on q (in_append q rs (r ∷ []) i);
+  }
+    where
+      by : (archetypes : List (List ℕ)) (n : ℕ) (t : SystemEntry) (q : Runner) → slice_get ss n ≡ Some t → (slice_get rs n ≡ Some q) ⊎ ((n ≡ length rs) × (q ≡ r)) → IsRunnerOf registry archetypes t q
+      by archetypes n t q i (inl j) = h.each archetypes n t q i j
+      by archetypes n t q i (inr (last, same)) =
+          let system : s ≡ t = (let both : Some s ≡ Some t = sym there ∙ (ap (slice_get ss) (sym (last ∙ h.count)) ∙ i) in cc) in
+          subst (λ u. IsRunnerOf registry archetypes u q) system (subst (IsRunnerOf registry archetypes s) (sym same) (is archetypes))
+
+      on : (q : Runner) → In q rs ⊎ In q (r ∷ []) → q.last.0 ≡ 0
+      on q (inl i) = h.never q i
+      on q (inr (inl same)) = ap (λ (p : Runner). p.last.0) same ∙ fresh
+      on q (inr (inr i)) = absurd i
+
+  pub all_runners : (rs : List Runner) (k : ℕ) → AreFirst rs k → length ss ≡ k → (archetypes : List (List ℕ)) → AreRunnersOf registry archetypes ss rs
+  all_runners rs k h all archetypes = record { count = h.count ∙ sym all; each = h.each archetypes }

@@ -27,10 +27,10 @@ abbrev run_tasks : Scenario → List Task
 run_tasks s = tasks_of no_files s (steps_of s)
 
 module _ (s : Scenario) (simple : IsSimple s) (trace : Bool) (files : List ℕ → SceneFile) where
-  lines : List Line
+  abbrev lines : List Line
   lines = lines_of_tasks versions (capacity s.registry) trace (run_tasks s) (first_stage s)
 
-  last : Stage
+  abbrev last : Stage
   last = stage_after s trace (run_tasks s) (first_stage s)
 
   finishes : end_of_run versions (capacity s.registry) trace files s (steps_of s) s.first_system_version ≡ Finished lines last.world
