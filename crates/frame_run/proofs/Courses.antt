@@ -30,7 +30,7 @@ module _ (clock : Clock) (capacity : List ℕ → ℕ) (trace : Bool) (frame : �
   events_go (Unloads name ∷ es) h g lines = absurd h
 
 -- a system without commands records nothing
-nothing_recorded : (clock : Clock) (s : SystemEntry) → s.command ≡ [] → (last : Option ℕ) (frame : ℕ) (w : World) → (run clock s last frame w).entries ≡ []
+pub nothing_recorded : (clock : Clock) (s : SystemEntry) → s.command ≡ [] → (last : Option ℕ) (frame : ℕ) (w : World) → (run clock s last frame w).entries ≡ []
 unfolding run
 nothing_recorded clock s none last frame w = go (matched clock w.registry s last 0 w.blocks)
   where

@@ -3,3 +3,6 @@ mod Courses
 mod Files
 mod Whole
 mod Found
+mod EventLoop
+mod Loops
+mod StepTasks

@@ -6,18 +6,19 @@ ghost use Rattle.run_model.specs.Loads.{SceneFile};
 ghost use Rattle.run_model.specs.Outcome.{outcome};
 ghost use Rattle.run_model.specs.Steps.{IsOrdered, steps_of};
 ghost use Rattle.run_laws.specs.Runnable.{IsRunnable};
-ghost use Rattle.frame_run.specs.Ending.{EndsAs, RunCauses, end_text};
+ghost use Rattle.frame_run.specs.Doing.{run_text};
+ghost use Rattle.frame_run.specs.Ending.{EndsAs, RunCauses};
 ghost use Rattle.frame_run.specs.Simple.{IsSimple};
-ghost use Rattle.frame_run.specs.Stages.{no_files};
 
 use crate::ends::RunEnd;
 use crate::frames::run_frames;
 use crate::runner::runners_of;
 use ent_io::{End, Sink, Status, Store};
+use run_laws::versions_stand_for_moments_in_a_scenario;
 use scenario_record::{Plan, Scenario, Step};
 use std::alloc::Global;
 use world_spawns::spawned;
-use world_text::write_world;
+use world_text::{lines_show_no_version, write_world};
 
 /// Runs a scenario, and writes the lines of the run and those of the world after its last frame.
 fn write_run<W: Sink>(
@@ -29,9 +30,7 @@ fn write_run<W: Sink>(
 ) -> Result<(), RunEnd>
     requires runnable { IsRunnable scenario.now }
     requires simple { IsSimple scenario.now }
-    requires ordered { IsOrdered scenario.now }
-    requires steps { steps.now ≡ steps_of scenario.now }
-    ensures text { Writes result (end_text scenario.now.frames (outcome trace no_files scenario.now)) (W.text out.old) (W.text out.new) }
+    ensures text { Writes result (run_text scenario.now trace steps.now) (W.text out.old) (W.text out.new) }
     ensures causes { RunCauses result (W.faults out.old) (W.faults out.new) }
 {
     let world = spawned(alloc, scenario)?;
@@ -65,6 +64,8 @@ pub fn run_frames_serial<S: Store, W: Sink>(
     ensures causes { StatusCauses result (S.faults _store.old) (S.faults _store.new) (W.faults out.old) (W.faults out.new) }
     ensures files { S.files _store.new ≡ S.files _store.old }
 {
+    versions_stand_for_moments_in_a_scenario();
+    lines_show_no_version();
     match write_run(alloc, scenario, plan.steps.as_slice(), trace, out) {
         Ok(()) => Status::Done,
         Err(end) => Status::from(End::from(end.cause)),
