@@ -13,18 +13,20 @@ use std::alloc::Global;
 use std::sync::Wait;
 use std::thread::Threads;
 
-/// Does the command that the words name, over the files of the store, and writes its text to the sink.
+/// Does the command that the arguments name, over the files of the store, and writes its text to the sink.
 ///
-/// Whatever scenario files are read, with any number of workers and in whatever order they claim blocks, the text
-/// written and the status are those of the defined run. `run FILE` with one worker, also with `--trace`, `check FILE` and
-/// `layout FILE` are built. Every other command is `Refused` with the cause NotBuilt before anything is read. A scenario in
-/// which a system has commands, or an event loads or unloads a scene, is checked, but its run and its layout are `Refused`
-/// with that cause after all its other faults.
+/// Whatever scenario files are read, the text and the status are those of the definition of a run: systems run one after
+/// another in their order, and a filtered system visits exactly the blocks that were written since it last ran.
 ///
-/// `BadWords` comes if and only if the words aren't a command. A command that is built is `Refused` if and only if the file
-/// is absent, longer than 1 MiB, invalid, or of a form that isn't run yet. `ReadFault` comes only if the store's count of
-/// faults rose in this call, and `WriteFault` only if the sink's did. With these two and `Memory` a prefix of the text was
-/// written. The words, the lines and the statuses are this project's own.
+/// `run FILE` with one worker, with or without `--trace`, `check FILE` and `layout FILE` are built. Every other command is
+/// `Refused` with the cause NotBuilt, and no file is read. Scenarios in which a system has commands, or an event loads or
+/// unloads a scene, aren't run yet. `run` and `layout` refuse such a scenario with the same cause, after all its other
+/// faults.
+///
+/// `BadWords` is returned if and only if the arguments aren't a command. A command that is built is `Refused` if and only if
+/// the file is absent, longer than 1 MiB, invalid, or of a form that isn't run yet. `ReadFault` is returned only if the
+/// store's count of faults rose in this call, and `WriteFault` only if the sink's did. With these two and `Memory` a prefix
+/// of the text was written. The arguments, the lines and the statuses are entsim's own.
 pub fn entsim<R: Threads + Wait, S: Store, W: Sink, G: Gate>(
     _rt: &R,
     alloc: Global,

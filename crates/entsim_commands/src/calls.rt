@@ -15,9 +15,9 @@ use std::alloc::Global;
 /// Reads and checks the scenario of a file, and writes the numbers of its own types, its systems and its frames, or its
 /// first fault.
 ///
-/// The status is `Done` if it passes, and `Refused` if the file is absent, longer than 1 MiB or invalid. `ReadFault` comes
-/// only if the store's count of faults rose, and `WriteFault` only if the sink's did. With these two and `Memory` a prefix
-/// of the line was written. The files stay as they are. This project's own.
+/// The status is `Done` if the scenario passes, and `Refused` if the file is absent, longer than 1 MiB or invalid.
+/// `ReadFault` is returned only if the store's count of faults rose, and `WriteFault` only if the sink's did. With these two
+/// and `Memory` a prefix of the line was written. The files stay as they are. The line is entsim's own.
 pub fn check_call<S: Store, W: Sink>(
     alloc: Global,
     scenario: &str,
@@ -38,8 +38,8 @@ pub fn check_call<S: Store, W: Sink>(
 /// Reads and checks the scenario of a file, and writes the blocks of its world after the spawns, or its first fault. No
 /// frame runs.
 ///
-/// The statuses are those of `check_call`, and also `Refused` for a scenario of a form that isn't run yet. This project's
-/// own.
+/// The statuses are those of `check_call`. `Refused` is also returned for a scenario of a form that isn't run yet. The lines
+/// are entsim's own.
 pub fn layout_call<S: Store, W: Sink>(
     alloc: Global,
     scenario: &str,
@@ -86,11 +86,11 @@ fn run_alone<S: Store, W: Sink>(
     }
 }
 
-/// Runs the scenario of a file. It writes a line for each event that is skipped, with `trace` a line for each run of a
-/// system, and at last the world after its frames; or it writes the scenario's first fault. More workers than one aren't
-/// built yet: they are refused before anything is read.
+/// Reads and checks the scenario of a file, and runs it, or writes its first fault. The run writes a line for each event
+/// that is skipped, with `trace` also a line for each run of a system, and at last the world after all frames.
 ///
-/// The statuses are those of `layout_call`. This project's own.
+/// A number of workers other than 1 is refused before anything is read, since it isn't built yet. The statuses are those of
+/// `layout_call`. The lines are entsim's own.
 pub fn run_call<S: Store, W: Sink>(
     alloc: Global,
     scenario: &str,
