@@ -3,5 +3,5 @@
 
 mod top;
 
-pub use entsim_commands::{Command, check_call, read_words, run_call};
+pub use entsim_commands::{Command, check_call, layout_call, read_words, run_call};
 pub use top::entsim;

@@ -1,60 +1,42 @@
--- From the steps of a command to what it gives, whatever files are told.
-use Rattle.std.proofs.Common.{◌≡◌, ℕ, List, Bool, true, false, Option, None, Some, Result, Ok, Err, refl, subst, sym}
-use Rattle.std.specs.Prelude.{IfSome, IsErrAnd}
-use Rattle.ent_io.proofs.Appends.{prefix_none}
-use Rattle.ent_io.specs.Files.{Files}
-use Rattle.ent_io.specs.Text.{appended, AppendsPrefix}
-use Rattle.ent_io.specs.declared.end.End.{End}
-use Rattle.plain_text.specs.Lines.{world_text}
-use Rattle.plain_world.specs.Run.{world_after}
+-- How a command ends, by the form of the scenario and by the end of its run.
+use Rattle.std.proofs.Common.{◌≡◌, ℕ, List, true, false, Option, ◌∙◌}
+use Rattle.ent_io.specs.declared.end.Status.{Status}
+use Rattle.ent_io.specs.declared.end.Status.TheVariants.{Done, BadWords, Refused, KeyShared, ReadFault, WriteFault, Memory}
+use Rattle.run_model.specs.Frames.{End}
+use Rattle.scenario_record.specs.declared.record.Scenario.{Scenario}
 use Rattle.scenario_check.specs.Built.{is_built}
-use Rattle.entsim_commands.specs.declared.commands.Checked.{Checked}
-use Rattle.entsim_commands.specs.declared.stop.Refusal.{Refusal}
+use Rattle.frame_run.specs.Ending.{EndsAs, end_status}
 use Rattle.entsim_commands.specs.declared.stop.Refusal.TheVariants.{NotBuilt}
-use Rattle.entsim_commands.specs.declared.stop.Stop.{Stop}
-use Rattle.entsim_commands.specs.declared.stop.Stop.TheVariants.{Ended}
-use Rattle.entsim_commands.specs.Outcome.{and_then, run_text}
-use Rattle.entsim_commands.specs.Stops.{Gives, IsWritten, StopsAt, StopsWithin}
+use Rattle.entsim_commands.specs.Headline.{Ends, OfCommand}
+use Rattle.entsim_commands.specs.Outcome.{Outcome, ended, if_built, refused}
 
--- where nothing was written, a prefix was
-nothing_written : (wanted : Result (List ℕ) Refusal) (old new : Option (List ℕ)) → new ≡ old → StopsWithin wanted old new
-nothing_written (Ok text) old new same = prefix_none text old new same
-nothing_written (Err refusal) old new same = same
+-- ---- by the form of the scenario
 
--- a step that gave its value leaves the rest
-pub told_gives : {A T : Type 0} (told : Option Files) (wanted : Files → Result A Refusal) (further : A → Result (List ℕ) Refusal) (value : A) (r : Result T Stop) (old new : Option (List ℕ))
-    → IfSome told (λ files. wanted files ≡ Ok value) → Gives (further value) r old new → IfSome told (λ files. Gives (and_then further (wanted files)) r old new)
-told_gives None wanted further value r old new is gives = tt
-told_gives (Some files) wanted further value r old new is gives = subst (λ w. Gives (and_then further w) r old new) (sym is) gives
+pub ends_built : (s : Scenario) (o : Outcome) (status : Status) (old new : Option (List ℕ)) → is_built s ≡ true → Ends o status old new → Ends (if_built s o) status old new
+unfolding if_built
+ends_built s o status old new is ends = rw is ends
 
--- an end before anything is written
-pub told_ended : {T : Type 0} (told : Option Files) (wanted : Files → Result (List ℕ) Refusal) (r : Result T Stop) (end : End) (old new : Option (List ℕ))
-    → IsErrAnd r (λ stop. stop ≡ Ended end) → new ≡ old → IfSome told (λ files. Gives (wanted files) r old new)
-told_ended told wanted (Ok value) end old new is same = absurd is
-told_ended None wanted (Err stop) end old new is same = tt
-told_ended (Some files) wanted (Err stop) end old new is same = subst (λ s. StopsAt (wanted files) s old new) (sym is) (nothing_written (wanted files) old new same)
+pub ends_unbuilt : (s : Scenario) (o : Outcome) (status : Status) (old new : Option (List ℕ)) → is_built s ≡ false → Ends (refused NotBuilt) status old new → Ends (if_built s o) status old new
+unfolding if_built
+ends_unbuilt s o status old new is ends = rw is ends
 
--- an end after a prefix of the text
-pub ended_within : {T : Type 0} (wanted : Result (List ℕ) Refusal) (text : List ℕ) (r : Result T Stop) (end : End) (old new : Option (List ℕ))
-    → wanted ≡ Ok text → IsErrAnd r (λ stop. stop ≡ Ended end) → AppendsPrefix text old new → Gives wanted r old new
-ended_within wanted text (Ok value) end old new due is prefix = absurd is
-ended_within wanted text (Err stop) end old new due is prefix =
-    subst (λ s. StopsAt wanted s old new) (sym is) (subst (λ w. StopsWithin w old new) (sym due) prefix)
+-- ---- a run
 
--- the text to its end
-pub told_written : {A : Type 0} (told : Option Files) (wanted : Files → Result A Refusal) (further : A → Result (List ℕ) Refusal) (value : A) (text : List ℕ) (old new : Option (List ℕ))
-    → IfSome told (λ files. wanted files ≡ Ok value) → further value ≡ Ok text → new ≡ appended old text → IfSome told (λ files. IsWritten (and_then further (wanted files)) old new)
-told_written None wanted further value text old new is due whole = tt
-told_written (Some files) wanted further value text old new is due whole =
-    subst (λ w. IsWritten (and_then further w) old new) (sym is) (subst (λ w. IsWritten w old new) (sym due) whole)
+pub run_ends : (frames : ℕ) (end : End) (status : Status) (old new : Option (List ℕ)) → EndsAs frames end status old new → Ends (ended frames end) status old new
+run_ends frames end Done old new h = h
+run_ends frames end BadWords old new h = absurd h
+run_ends frames end Refused old new h = absurd h
+run_ends frames end KeyShared old new h = h
+run_ends frames end ReadFault old new h = h
+run_ends frames end WriteFault old new h = h
+run_ends frames end Memory old new h = h
 
--- the text of a run, by its form
-
-pub unbuilt_text : (c : Checked) (b : Bool) → b ≡ is_built c.scenario → b ≡ false → run_text c ≡ Err NotBuilt
-unfolding run_text
-unbuilt_text c b is off = rw (← is) (rw off refl)
-
-pub built_text : (c : Checked) (b : Bool) → b ≡ is_built c.scenario → b ≡ true
-    → run_text c ≡ Ok (world_text c.scenario.registry c.scenario.frames (world_after c.scenario c.plan))
-unfolding run_text
-built_text c b is on = rw (← is) (rw on refl)
+-- a run that finishes shares no key
+pub run_unshared : (frames : ℕ) (end : End) (status : Status) (old new : Option (List ℕ)) → end_status end ≡ Done → EndsAs frames end status old new → OfCommand status
+run_unshared frames end Done old new done h = tt
+run_unshared frames end BadWords old new done h = h
+run_unshared frames end Refused old new done h = tt
+run_unshared frames end KeyShared old new done h = let differ : KeyShared ≡ Done = h.0 ∙ done in absurd (cc)
+run_unshared frames end ReadFault old new done h = tt
+run_unshared frames end WriteFault old new done h = tt
+run_unshared frames end Memory old new done h = tt

@@ -1,3 +1,6 @@
+mod Built
 mod Ends
+mod Layouts
 mod Merged
 mod Numerals
+mod Unshared

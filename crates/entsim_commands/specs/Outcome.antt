@@ -1,19 +1,24 @@
 -- What the program writes and the status it ends with, for any words and files.
-use Rattle.std.specs.Prelude.{ℕ, ◌==◌, ◌&&◌, not, if◌then◌else◌, List, Bool, true, Option, None, Some, Result, Ok, Err}
+use Rattle.std.specs.Prelude.{ℕ, ◌==◌, if◌then◌else◌, List, Bool, true, Option, None, Some, Result, Ok, Err}
 use Rattle.ent_io.specs.Files.{Files}
 use Rattle.ent_io.specs.Store.{whole_of}
 use Rattle.ent_io.specs.declared.end.Status.{Status}
-use Rattle.ent_io.specs.declared.end.Status.TheVariants.{Done, BadWords, Refused}
+use Rattle.ent_io.specs.declared.end.Status.TheVariants as statuses
 use Rattle.ent_types.specs.declared.limits.TheConstants.{LONGEST_SCENARIO}
+use Rattle.world_model.specs.World.{capacity}
 use Rattle.scenario_record.specs.declared.record.Scenario.{Scenario}
 use Rattle.scenario_read.specs.ReadScenario.{scenario_of}
 use Rattle.scenario_check.specs.Planned.{checked}
 use Rattle.scenario_check.specs.Built.{is_built}
-use Rattle.plain_world.specs.Run.{world_after}
-use Rattle.plain_text.specs.Lines.{world_text}
+use Rattle.run_model.specs.Frames.{End}
+use Rattle.run_model.specs.Outcome.{first_moment, outcome as end_of_run}
+use Rattle.run_model.specs.Tasks.{spawned}
+use Rattle.world_text.specs.Layout.{layout_text}
+use Rattle.frame_run.specs.Ending.{end_status, end_text}
+use Rattle.frame_run.specs.Stages.{no_files}
 use Rattle.entsim_commands.specs.ErrorLines.{refusal_line, words_line}
 use Rattle.entsim_commands.specs.CheckLine.{ok_line}
-use Rattle.entsim_commands.specs.declared.commands.Checked.{Checked}
+use Rattle.entsim_commands.specs.declared.checked.Checked.{Checked}
 use Rattle.entsim_commands.specs.declared.stop.Refusal.{Refusal}
 use Rattle.entsim_commands.specs.declared.stop.Refusal.TheVariants.{Missing, Faulty, NotBuilt}
 use Rattle.entsim_commands.specs.Words.{Command, run, check, layout, plan, dump, make, bench, command_of}
@@ -22,6 +27,16 @@ use Rattle.entsim_commands.specs.Words.{Command, run, check, layout, plan, dump,
 pub record Outcome : Type 0 where
   pub text : List ℕ
   pub status : Status
+
+-- a text to its end
+abbrev pub whole : List ℕ → Outcome
+whole text = record { text = text; status = statuses.Done }
+
+-- the line of a refusal
+abbrev pub refused : Refusal → Outcome
+refused refusal = record { text = refusal_line refusal; status = statuses.Refused }
+
+-- ---- the scenario of a file
 
 -- a refusal, or first the one and then the other with what it gave
 abbrev pub and_then : {A B : Type 0} → (A → Result B Refusal) → Result A Refusal → Result B Refusal
@@ -49,43 +64,59 @@ checked_of s = and_then (λ plan. Ok (record { scenario = s; plan = plan })) (re
 abbrev pub scenario_in : Option (List ℕ) → Result Checked Refusal
 scenario_in file = and_then checked_of (and_then read_from (bytes_in file))
 
--- the text of a run: the world after the frames, for the forms that are built
-unfoldable pub run_text : Checked → Result (List ℕ) Refusal
-run_text c =
-    if is_built c.scenario then Ok (world_text c.scenario.registry c.scenario.frames (world_after c.scenario c.plan))
-    else Err NotBuilt
+-- ---- what comes of a scenario that passes its checks
 
--- the text of a check
-abbrev pub check_text : Checked → Result (List ℕ) Refusal
-check_text c = Ok (ok_line c.scenario)
+-- the lines of its run with their status
+abbrev pub ended : ℕ → End → Outcome
+ended frames end = record { text = end_text frames end; status = end_status end }
+
+-- What a form that is built comes to. Another one is refused.
+unfoldable pub if_built : Scenario → Outcome → Outcome
+if_built s o = if is_built s then o else refused NotBuilt
+
+-- The run, by the definition of runs. No event of a form that is built loads a scene, so no scene file is read.
+abbrev pub run_end : Bool → Scenario → End
+run_end trace s = end_of_run trace no_files s
+
+abbrev pub run_outcome : Bool → Checked → Outcome
+run_outcome trace c = if_built c.scenario (ended c.scenario.frames (run_end trace c.scenario))
+
+-- the blocks after the spawns
+abbrev pub layout_after_spawns : Scenario → List ℕ
+layout_after_spawns s = layout_text (spawned (capacity s.registry) s first_moment)
+
+abbrev pub layout_outcome : Checked → Outcome
+layout_outcome c = if_built c.scenario (whole (layout_after_spawns c.scenario))
+
+abbrev pub check_outcome : Checked → Outcome
+check_outcome c = whole (ok_line c.scenario)
+
+-- ---- commands
+
+-- what comes of a scenario, or the line of its refusal
+abbrev pub unless_refused : (Checked → Outcome) → Result Checked Refusal → Outcome
+unless_refused further (Ok c) = further c
+unless_refused further (Err refusal) = refused refusal
 
 -- one worker, as where none are named
 abbrev pub is_alone : Option ℕ → Bool
 is_alone None = true
 is_alone (Some n) = n == 1
 
--- The text of a command, or why it is refused. The run of a file with one worker and without a trace, and the check of a
--- file are built. What isn't is refused before anything is read.
-abbrev pub command_text : Files → Command → Result (List ℕ) Refusal
-command_text files (run file workers trace) = if is_alone workers && not trace then and_then run_text (scenario_in (files file)) else Err NotBuilt
-command_text files (check file) = and_then check_text (scenario_in (files file))
-command_text files (layout file) = Err NotBuilt
-command_text files (plan file) = Err NotBuilt
-command_text files (dump scenario scene) = Err NotBuilt
-command_text files (make number scene) = Err NotBuilt
-command_text files (bench number workers) = Err NotBuilt
-
--- a text to its end, or the line of the refusal
-abbrev pub outcome_of : Result (List ℕ) Refusal → Outcome
-outcome_of (Ok text) = record { text = text; status = Done }
-outcome_of (Err refusal) = record { text = refusal_line refusal; status = Refused }
-
+-- The outcome of a command. The run of a file with one worker, its check and its layout are built. What isn't is refused
+-- before anything is read.
 abbrev pub command_outcome : Files → Command → Outcome
-command_outcome files command = outcome_of (command_text files command)
+command_outcome files (run file workers trace) = if is_alone workers then unless_refused (run_outcome trace) (scenario_in (files file)) else refused NotBuilt
+command_outcome files (check file) = unless_refused check_outcome (scenario_in (files file))
+command_outcome files (layout file) = unless_refused layout_outcome (scenario_in (files file))
+command_outcome files (plan file) = refused NotBuilt
+command_outcome files (dump scenario scene) = refused NotBuilt
+command_outcome files (make number scene) = refused NotBuilt
+command_outcome files (bench number workers) = refused NotBuilt
 
 -- words that are no command
 abbrev pub bad_words : Outcome
-bad_words = record { text = words_line; status = BadWords }
+bad_words = record { text = words_line; status = statuses.BadWords }
 
 abbrev pub words_outcome : Files → Option Command → Outcome
 words_outcome files None = bad_words

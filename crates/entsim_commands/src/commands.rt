@@ -1,111 +1,110 @@
-//! The commands over a scenario, from the name of its file to the text.
-ghost use Rattle.std.specs.Prelude.{◌≡◌, ◌+◌, ◌≤◌, length, true, IfOk, IfSome, Ok};
+//! What each command makes of a scenario that passed its checks.
+ghost use Rattle.std.specs.Prelude.{◌≡◌};
+ghost use Rattle.ent_io.specs.End.{Causes};
+ghost use Rattle.ent_io.specs.Status.{StatusCauses};
+ghost use Rattle.ent_io.specs.Text.{Writes};
+ghost use Rattle.run_model.specs.Steps.{IsOrdered};
+ghost use Rattle.run_laws.specs.Runnable.{IsRunnable};
 ghost use Rattle.entsim_commands.specs.CheckLine.{ok_line};
-ghost use Rattle.scenario_check.specs.Built.{is_built};
-ghost use Rattle.scenario_record.specs.Runnable.{IsRunnable};
-ghost use Rattle.entsim_commands.specs.Outcome.{and_then, check_text, checked_of, read_from, run_text, scenario_in};
-ghost use Rattle.entsim_commands.specs.Stops.{Answers, Gives, StopCauses};
+ghost use Rattle.entsim_commands.specs.Headline.{Ends, OfCommand};
+ghost use Rattle.entsim_commands.specs.Outcome.{check_outcome, layout_after_spawns, layout_outcome, run_outcome, whole};
+ghost use Rattle.entsim_commands.specs.Passed.{HasPassed};
 
 use crate::check_line::ok_line;
-use crate::stop::{Refusal, Stop};
-use ent_io::{Sink, Store, read_whole, write_whole};
-use ent_types::limits::{LONGEST_SCENARIO, MOST_SYSTEMS};
-use plain_text::write_world;
-use plain_world::run_scenario;
-use scenario_check::{check, is_built};
-use scenario_laws::{what_is_read_can_be_checked, what_passes_can_be_run, what_passes_is_ordered};
-use scenario_read::read_scenario;
-use scenario_record::{Plan, Scenario};
+use crate::checked::Checked;
+use crate::refusal::refuse;
+use crate::stop::Refusal;
+use ent_io::{End, Sink, Status, Store, write_whole};
+use frame_run::run_frames_serial;
+use scenario_check::is_built;
+use scenario_record::Scenario;
 use std::alloc::Global;
+use world_spawns::spawned;
+use world_text::write_layout;
 
-/// A scenario that passes its checks, and its plan.
-#[derive(Drop)]
-pub struct Checked {
-    /// The scenario.
-    pub scenario: Scenario,
-    /// What its frames do, and what its systems touch.
-    pub plan: Plan,
-}
-
-/// Reads the scenario of a file, checks it and plans its frames.
-fn read_checked<S: Store>(alloc: Global, name: &str, store: &mut S) -> Result<Checked, Stop>
-    ensures answer { IfSome (S.files store.old) (λ files. Answers (scenario_in (files name.now)) result) }
-    ensures runnable { IfOk result (λ c. is_built c.scenario ≡ true → IsRunnable c.scenario) }
-    ensures steps { IfOk result (λ c. length c.plan.steps ≤ MOST_SYSTEMS + 6) }
-    ensures causes { StopCauses result (S.faults store.old) (S.faults store.new) 0 0 }
-    ensures files { S.files store.new ≡ S.files store.old }
-{
-    let bytes = read_whole(alloc, store, name, LONGEST_SCENARIO)?;
-    checked_from(alloc, &bytes)
-}
-
-/// Reads a scenario from the bytes of a file, checks it and plans its frames.
-fn checked_from(alloc: Global, bytes: &[u8]) -> Result<Checked, Stop>
-    ensures answer { Answers (and_then checked_of (read_from bytes.now)) result }
-    ensures runnable { IfOk result (λ c. is_built c.scenario ≡ true → IsRunnable c.scenario) }
-    ensures steps { IfOk result (λ c. length c.plan.steps ≤ MOST_SYSTEMS + 6) }
-    ensures causes { StopCauses result 0 0 0 0 }
-{
-    what_is_read_can_be_checked();
-    what_passes_can_be_run();
-    what_passes_is_ordered();
-    let scenario = read_scenario(alloc, bytes)?;
-    let plan = check(alloc, &scenario)?;
-    Ok(Checked { scenario, plan })
-}
-
-/// Runs the scenario of a file, and writes the world after its frames.
-pub fn run_file<S: Store, W: Sink>(
+/// Runs a scenario on one thread, and writes the lines of its run, if the scenario is of a form that is run.
+pub fn run_checked<S: Store, W: Sink>(
     alloc: Global,
-    name: &str,
+    checked: &Checked,
+    trace: bool,
     store: &mut S,
     out: &mut W,
-) -> Result<(), Stop>
-    ensures gives { IfSome (S.files store.old) (λ files. Gives (and_then run_text (scenario_in (files name.now))) result (W.text out.old) (W.text out.new)) }
-    ensures causes { StopCauses result (S.faults store.old) (S.faults store.new) (W.faults out.old) (W.faults out.new) }
+) -> Status
+    requires { HasPassed checked.now }
+    ensures headline { Ends (run_outcome trace checked.now) result (W.text out.old) (W.text out.new) }
+    ensures words { OfCommand result }
+    ensures causes { StatusCauses result (S.faults store.old) (S.faults store.new) (W.faults out.old) (W.faults out.new) }
     ensures files { S.files store.new ≡ S.files store.old }
 {
-    let checked = read_checked(alloc, name, store)?;
-    run_checked(alloc, &checked, out)
-}
-
-/// Runs a scenario that passes its checks, and writes the world after its frames.
-fn run_checked<W: Sink>(alloc: Global, checked: &Checked, out: &mut W) -> Result<(), Stop>
-    requires runnable { is_built checked.now.scenario ≡ true → IsRunnable checked.now.scenario }
-    requires steps { length checked.now.plan.steps ≤ MOST_SYSTEMS + 6 }
-    ensures gives { Gives (run_text checked.now) result (W.text out.old) (W.text out.new) }
-    ensures causes { StopCauses result 0 0 (W.faults out.old) (W.faults out.new) }
-{
-    let scenario = &checked.scenario;
-    if !is_built(scenario) {
-        return Err(Stop::Refused(Refusal::NotBuilt));
+    if !is_built(&checked.scenario) {
+        return refuse(alloc, &Refusal::NotBuilt, out);
     }
-    let world = run_scenario(alloc, scenario, &checked.plan)?;
-    write_world(alloc, &scenario.registry, scenario.frames, &world, out)?;
-    Ok(())
+    run_frames_serial(alloc, &checked.scenario, &checked.plan, trace, store, out)
 }
 
-/// Checks the scenario of a file, and writes the numbers of its own types, its systems and its frames.
-pub fn check_file<S: Store, W: Sink>(
-    alloc: Global,
-    name: &str,
-    store: &mut S,
-    out: &mut W,
-) -> Result<(), Stop>
-    ensures gives { IfSome (S.files store.old) (λ files. Gives (and_then check_text (scenario_in (files name.now))) result (W.text out.old) (W.text out.new)) }
-    ensures causes { StopCauses result (S.faults store.old) (S.faults store.new) (W.faults out.old) (W.faults out.new) }
-    ensures files { S.files store.new ≡ S.files store.old }
-{
-    let checked = read_checked(alloc, name, store)?;
-    write_check(alloc, &checked.scenario, out)
-}
-
-/// Writes the line of a scenario that passes its checks.
-fn write_check<W: Sink>(alloc: Global, scenario: &Scenario, out: &mut W) -> Result<(), Stop>
-    ensures gives { Gives (Ok (ok_line scenario.now)) result (W.text out.old) (W.text out.new) }
-    ensures causes { StopCauses result 0 0 (W.faults out.old) (W.faults out.new) }
+/// Writes the line of a scenario that passed its checks.
+fn write_check<W: Sink>(alloc: Global, scenario: &Scenario, out: &mut W) -> Result<(), End>
+    ensures text { Writes result (ok_line scenario.now) (W.text out.old) (W.text out.new) }
+    ensures causes { Causes result 0 0 (W.faults out.old) (W.faults out.new) }
 {
     let line = ok_line(alloc, scenario)?;
     write_whole(out, &line)?;
     Ok(())
+}
+
+/// Writes the numbers of a scenario's own types, its systems and its frames.
+pub fn check_checked<W: Sink>(alloc: Global, checked: &Checked, out: &mut W) -> Status
+    ensures headline { Ends (check_outcome checked.now) result (W.text out.old) (W.text out.new) }
+    ensures words { OfCommand result }
+    ensures causes { StatusCauses result 0 0 (W.faults out.old) (W.faults out.new) }
+{
+    match write_check(alloc, &checked.scenario, out) {
+        Ok(()) => Status::Done,
+        Err(end) => Status::from(end),
+    }
+}
+
+/// Writes the layout of the world after a scenario's spawns.
+fn write_layout_after_spawns<W: Sink>(
+    alloc: Global,
+    scenario: &Scenario,
+    out: &mut W,
+) -> Result<(), End>
+    requires runnable { IsRunnable scenario.now }
+    requires ordered { IsOrdered scenario.now }
+    ensures text { Writes result (layout_after_spawns scenario.now) (W.text out.old) (W.text out.new) }
+    ensures causes { Causes result 0 0 (W.faults out.old) (W.faults out.new) }
+{
+    let Ok(world) = spawned(alloc, scenario) else {
+        return Err(End::Memory);
+    };
+    write_layout(alloc, &world, out)?;
+    Ok(())
+}
+
+/// Writes the blocks of a scenario's world after its spawns.
+fn show_layout<W: Sink>(alloc: Global, scenario: &Scenario, out: &mut W) -> Status
+    requires runnable { IsRunnable scenario.now }
+    requires ordered { IsOrdered scenario.now }
+    ensures headline { Ends (whole (layout_after_spawns scenario.now)) result (W.text out.old) (W.text out.new) }
+    ensures words { OfCommand result }
+    ensures causes { StatusCauses result 0 0 (W.faults out.old) (W.faults out.new) }
+{
+    match write_layout_after_spawns(alloc, scenario, out) {
+        Ok(()) => Status::Done,
+        Err(end) => Status::from(end),
+    }
+}
+
+/// Writes the blocks of a scenario's world after its spawns, if the scenario is of a form that is run.
+pub fn layout_checked<W: Sink>(alloc: Global, checked: &Checked, out: &mut W) -> Status
+    requires { HasPassed checked.now }
+    ensures headline { Ends (layout_outcome checked.now) result (W.text out.old) (W.text out.new) }
+    ensures words { OfCommand result }
+    ensures causes { StatusCauses result 0 0 (W.faults out.old) (W.faults out.new) }
+{
+    if !is_built(&checked.scenario) {
+        return refuse(alloc, &Refusal::NotBuilt, out);
+    }
+    show_layout(alloc, &checked.scenario, out)
 }

@@ -1,12 +1,16 @@
-//! The lines of refusals.
-ghost use Rattle.std.specs.Prelude.{◌≡◌, ◌++◌, codes, IfOk, OnOk};
+//! Refusals: their lines, and the status that they end a command with.
+ghost use Rattle.std.specs.Prelude.{◌≡◌, ◌++◌, ℕ, codes, IfOk, OnOk};
 ghost use Rattle.std.specs.Fmt.{decimal};
 ghost use Rattle.ent_io.specs.End.{Causes};
+ghost use Rattle.ent_io.specs.Status.{StatusCauses};
 ghost use Rattle.ent_io.specs.Text.{Writes};
 ghost use Rattle.entsim_commands.specs.ErrorLines.{at_text, fault_line, key_text, missing_line, refusal_line};
+ghost use Rattle.entsim_commands.specs.Headline.{Ends, OfBadWords, OfCommand};
+ghost use Rattle.entsim_commands.specs.Outcome.{Outcome, bad_words, refused};
+ghost use Rattle.entsim_commands.specs.Stops.{ComesTo, StopCause};
 
-use crate::stop::Refusal;
-use ent_io::{End, Missing, Sink, write_whole};
+use crate::stop::{Refusal, Stop};
+use ent_io::{End, Missing, Sink, Status, write_whole};
 use scenario_record::{BadScenario, Cause};
 use std::alloc::{AllocError, Global};
 
@@ -78,11 +82,49 @@ fn refusal_line(alloc: Global, refusal: &Refusal) -> Result<Vec<u8>, AllocError>
 }
 
 /// Writes the line of a refusal.
-pub fn write_refusal<W: Sink>(alloc: Global, refusal: &Refusal, out: &mut W) -> Result<(), End>
+fn write_refusal<W: Sink>(alloc: Global, refusal: &Refusal, out: &mut W) -> Result<(), End>
     ensures text { Writes result (refusal_line refusal.now) (W.text out.old) (W.text out.new) }
     ensures causes { Causes result 0 0 (W.faults out.old) (W.faults out.new) }
 {
     let line = refusal_line(alloc, refusal)?;
     write_whole(out, &line)?;
     Ok(())
+}
+
+/// Writes the line of words that are no command.
+#[tactic(auto, unfolding(crate::specs::ErrorLines::words_line))]
+pub fn refuse_words<W: Sink>(out: &mut W) -> Status
+    ensures headline { Ends bad_words result (W.text out.old) (W.text out.new) }
+    ensures words { OfBadWords result }
+    ensures causes { StatusCauses result 0 0 (W.faults out.old) (W.faults out.new) }
+{
+    match write_whole(out, b"error words\n") {
+        Ok(()) => Status::BadWords,
+        Err(end) => Status::from(End::from(end)),
+    }
+}
+
+/// Refuses a command: writes the line of the refusal.
+pub fn refuse<W: Sink>(alloc: Global, refusal: &Refusal, out: &mut W) -> Status
+    ensures headline { Ends (refused refusal.now) result (W.text out.old) (W.text out.new) }
+    ensures words { OfCommand result }
+    ensures causes { StatusCauses result 0 0 (W.faults out.old) (W.faults out.new) }
+{
+    match write_refusal(alloc, refusal, out) {
+        Ok(()) => Status::Refused,
+        Err(end) => Status::from(end),
+    }
+}
+
+/// Ends a command that has no scenario to work on: writes the line of its refusal, if it is refused.
+pub fn end_early<W: Sink>(alloc: Global, stop: &Stop, out: &mut W) -> Status
+    ensures headline { (due : Outcome) → ComesTo stop.now due → Ends due result (W.text out.old) (W.text out.new) }
+    ensures words { OfCommand result }
+    ensures causes { (before now : ℕ) → StopCause stop.now before now → StatusCauses result before now (W.faults out.old) (W.faults out.new) }
+{
+    match stop {
+        Stop::Refused(refusal) => refuse(alloc, refusal, out),
+        Stop::ReadFault => Status::ReadFault,
+        Stop::Memory => Status::Memory,
+    }
 }

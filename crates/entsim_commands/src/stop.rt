@@ -1,14 +1,9 @@
-//! Why a command stops before its end.
+//! Why a command has no scenario to work on.
 ghost use Rattle.std.specs.Prelude.{◌≡◌};
 ghost use Rattle.entsim_commands.specs.Stops.{stop_of_read, stop_of_scenario};
-ghost use Rattle.entsim_commands.specs.declared.stop.Stop.TheVariants.{Refused, Ended};
-ghost use Rattle.ent_io.specs.declared.end.End.TheVariants as end;
-ghost use Rattle.ent_io.specs.End.{end_of, text_end_of};
 
-use ent_io::{End, Missing, ReadEnd, TextEnd, WriteEnd};
-use ent_types::Memory;
+use ent_io::{Missing, ReadEnd};
 use scenario_record::{BadScenario, ScenarioFault};
-use std::alloc::AllocError;
 
 /// Why a command is refused. Each refusal has an error line.
 #[derive(Debug, Drop)]
@@ -21,13 +16,15 @@ pub enum Refusal {
     NotBuilt,
 }
 
-/// Why a command stops before its text is written to its end.
+/// Why a command stops before it writes anything.
 #[derive(Debug, Drop)]
 pub enum Stop {
-    /// It is refused, and nothing is written yet.
+    /// It is refused.
     Refused(Refusal),
-    /// The store or the sink failed, or memory ran out.
-    Ended(End),
+    /// The store failed, and its count of faults rose.
+    ReadFault,
+    /// Memory ran out, and nothing else failed.
+    Memory,
 }
 
 impl From<ReadEnd> for Stop {
@@ -36,9 +33,9 @@ impl From<ReadEnd> for Stop {
     fn from(end: ReadEnd) -> Self {
         match end {
             ReadEnd::Absent => Stop::Refused(Refusal::Missing(Missing::Absent)),
-            ReadEnd::Fault => Stop::Ended(End::ReadFault),
+            ReadEnd::Fault => Stop::ReadFault,
             ReadEnd::TooLong => Stop::Refused(Refusal::Missing(Missing::TooLong)),
-            ReadEnd::Memory => Stop::Ended(End::Memory),
+            ReadEnd::Memory => Stop::Memory,
         }
     }
 }
@@ -49,39 +46,7 @@ impl From<ScenarioFault> for Stop {
     fn from(fault: ScenarioFault) -> Self {
         match fault {
             ScenarioFault::Bad(bad) => Stop::Refused(Refusal::Faulty(bad)),
-            ScenarioFault::Memory => Stop::Ended(End::Memory),
+            ScenarioFault::Memory => Stop::Memory,
         }
-    }
-}
-
-impl From<AllocError> for Stop {
-    ghost from_gives = { λ _ stop. stop ≡ Ended end.Memory };
-
-    fn from(_: AllocError) -> Self {
-        Stop::Ended(End::Memory)
-    }
-}
-
-impl From<Memory> for Stop {
-    ghost from_gives = { λ _ stop. stop ≡ Ended end.Memory };
-
-    fn from(_: Memory) -> Self {
-        Stop::Ended(End::Memory)
-    }
-}
-
-impl From<TextEnd> for Stop {
-    ghost from_gives = { λ text stop. stop ≡ Ended (end_of text) };
-
-    fn from(text: TextEnd) -> Self {
-        Stop::Ended(End::from(text))
-    }
-}
-
-impl From<WriteEnd> for Stop {
-    ghost from_gives = { λ write stop. stop ≡ Ended (end_of (text_end_of write.cause)) };
-
-    fn from(write: WriteEnd) -> Self {
-        Stop::Ended(End::from(write))
     }
 }

@@ -1,21 +1,22 @@
-use Rattle.std.proofs.Common.{None, Some, Ok, refl}
-use Rattle.entsim_commands.specs.Outcome.{run_text}
-use Rattle.entsim_commands.proofs.Ends.{told_ended, told_written, ended_within, unbuilt_text, built_text}
+use Rattle.std.proofs.Common.{sym, ◌∙◌}
+use Rattle.frame_run.specs.Stages.{no_files}
+use Rattle.entsim_commands.proofs.Built.{built_is_simple}
+use Rattle.entsim_commands.proofs.Ends.{ends_built, ends_unbuilt, run_ends, run_unshared}
+use Rattle.entsim_commands.proofs.Unshared.{simple_run_is_done}
 use Rattle.entsim_commands.proofs.commands.run_checked.Goals as goal
 
-pub returns-then-not-is_built-clause-gives : goal.returns-then-not-is_built-clause-gives
-returns-then-not-is_built-clause-gives g c = (unbuilt_text _ _ c.is_built.ensures c.if-not-is_built.true, refl)
+pub returns-then-not-is_built-clause-headline : goal.returns-then-not-is_built-clause-headline
+returns-then-not-is_built-clause-headline g c =
+    ends_unbuilt _ _ _ _ _ (sym c.is_built.ensures ∙ c.if-not-is_built.true) c.refuse.ensures.headline
 
-pub returns-in_err-world-clause-gives : goal.returns-in_err-world-clause-gives
-returns-in_err-world-clause-gives g c =
-    told_ended (Some (λ name. None)) (λ files. run_text c.args.checked.now) _ _ _ _ c.from_residual.ensures.1 refl
+pub run_frames_serial-requires-clause-simple : goal.run_frames_serial-requires-clause-simple
+run_frames_serial-requires-clause-simple g c = built_is_simple _ (sym c.is_built.ensures ∙ c.if-not-is_built.false)
 
-pub returns-in_err-write_world-clause-gives : goal.returns-in_err-write_world-clause-gives
-returns-in_err-write_world-clause-gives g c =
-    ended_within _ _ _ _ _ _ (built_text _ _ c.is_built.ensures c.if-not-is_built.false) c.from_residual-in_err-write_world.ensures.1 (rw c.in_ok-world.ensures.world at c.in_err-write_world.ensures.text)
+pub returns-clause-headline : goal.returns-clause-headline
+returns-clause-headline g c =
+    ends_built _ _ _ _ _ (sym c.is_built.ensures ∙ c.if-not-is_built.false) (run_ends _ _ _ _ _ (c.run_frames_serial.ensures.run no_files))
 
-pub returns-clause-gives : goal.returns-clause-gives
-returns-clause-gives g c =
-    told_written (Some (λ name. None)) (λ files. Ok c.args.checked.now) run_text c.args.checked.now _ _ _ refl
-    (built_text _ _ c.is_built.ensures c.if-not-is_built.false)
-    (rw c.in_ok-world.ensures.world at c.in_ok-write_world.ensures.text)
+pub returns-clause-words : goal.returns-clause-words
+returns-clause-words g c =
+    run_unshared _ _ _ _ _ (simple_run_is_done _ (built_is_simple _ (sym c.is_built.ensures ∙ c.if-not-is_built.false)) _ no_files)
+    (c.run_frames_serial.ensures.run no_files)

@@ -1,6 +1,0 @@
-use Rattle.entsim_commands.specs.Outcome.{run_text}
-use Rattle.entsim_commands.proofs.Ends.{told_gives}
-use Rattle.entsim_commands.proofs.commands.run_file.Goals as goal
-
-pub returns-clause-gives : goal.returns-clause-gives
-returns-clause-gives g c = told_gives _ _ run_text c.in_ok-checked.checked _ _ _ c.in_ok-checked.ensures.answer c.run_checked.ensures.gives

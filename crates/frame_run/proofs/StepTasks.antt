@@ -1,0 +1,90 @@
+-- The task of a step of the plan, and what the run of a system makes of the stage.
+use Rattle.std.proofs.Common.{◌≡◌, ℕ, ◌+◌, nat_eq, Bool, true, false, if◌then◌else◌, List, [], ◌∷◌, ◌++◌, map, length, Option, Some, None, refl, sym, ap, ap₂, ◌∙◌, subst, slice_get}
+use Rattle.std.specs.Prelude.{slice_set, unwrap_or, ◌==◌}
+use Rattle.std.proofs.lemmas.List.{append-nil}
+use Rattle.system_version.specs.Versions.{next_version}
+use Rattle.system_version.specs.declared.version.TheConstants.{LAST_VERSION}
+use Rattle.world_model.specs.World.{World, capacity}
+use Rattle.scenario_record.specs.declared.plan.Step.TheVariants.{Run}
+use Rattle.scenario_record.specs.declared.record.Scenario.{Scenario}
+use Rattle.scenario_record.specs.declared.record.SystemEntry.{SystemEntry}
+use Rattle.run_model.specs.declared.lines.TraceLine.TheVariants.{Run as RunLine}
+use Rattle.run_model.specs.Clock.{versions}
+use Rattle.run_model.specs.Run.{RunResult, run}
+use Rattle.run_model.specs.Tasks.{Runs, Task, runs_in, run_step}
+use Rattle.run_model.specs.Frames.{last_run as last_in}
+use Rattle.structural_ops.specs.Worlds.{WorldState}
+use Rattle.query_select.specs.Entries.{last_run}
+use Rattle.phase_run.specs.After.{ran, world_after}
+use Rattle.world_text.specs.Lines.{lines_text, trace_text}
+use Rattle.frame_run.specs.declared.runner.Runner.{Runner}
+use Rattle.frame_run.specs.Doing.{stage_after, task_in, tasks_of_step, text_of}
+use Rattle.frame_run.specs.Runners.{stage_of}
+use Rattle.frame_run.specs.Stages.{Stage, no_files, run_of, with_ran}
+use Rattle.frame_run.proofs.Courses.{nothing_recorded}
+use Rattle.frame_run.proofs.Found.{last_of, map_found, map_set}
+
+module _ (s : Scenario) (frame n : ℕ) where
+  pub no_task : slice_get s.system n ≡ None → tasks_of_step s frame (Run n) ≡ []
+  no_task none = ap (λ (o : Option SystemEntry). map (task_in frame) (run_step no_files s frame n o)) none
+
+  pub task_if : (y : SystemEntry) (b : Bool) → slice_get s.system n ≡ Some y → runs_in frame y ≡ b
+      → tasks_of_step s frame (Run n) ≡ map (task_in frame) (if b then Runs n y ∷ [] else [])
+  task_if y b there runs =
+      ap (λ (o : Option SystemEntry). map (task_in frame) (run_step no_files s frame n o)) there
+      ∙ ap (λ (c : Bool). map (task_in frame) (if c then Runs n y ∷ [] else [])) runs
+
+-- no version is 0
+later_is_some : (version : ℕ) → last_run (next_version version) ≡ Some (next_version version)
+later_is_some version = by (version == LAST_VERSION)
+  where
+    by : (b : Bool) → last_run (if b then 1 else version + 1) ≡ Some (if b then 1 else version + 1)
+    by true = refl
+    by false = refl
+
+ran_moment : (y : SystemEntry) (last : Option ℕ) (frame : ℕ) (w : World) → (run versions y last frame w).world.moment ≡ next_version w.moment
+unfolding run
+ran_moment y last frame w = refl
+
+module _ (s : Scenario) (trace : Bool) (frame n : ℕ) (y : SystemEntry) (w : WorldState) (rs : List Runner) (r : Runner) (there : slice_get rs n ≡ Some r) where
+  abbrev here : List Task
+  here = task_in frame (Runs n y) ∷ []
+
+  last_is : last_in versions (capacity s.registry) trace (map last_of rs) n ≡ last_of r
+  last_is = ap (λ o. unwrap_or o None) (map_found last_of rs n r there)
+
+  run_is : run_of versions (capacity s.registry) trace frame n y (stage_of w rs) ≡ ran y r.last.0 frame w
+  run_is = ap (λ last. run versions y last frame w.world) last_is
+
+  -- the world after the run, and the version of the run in the place of the last one
+  pub stage_ran : (u : WorldState) (q : Runner) → u ≡ world_after y r.last.0 frame w → q.last.0 ≡ u.world.moment
+      → stage_of u (slice_set rs n q) ≡ stage_after s trace here (stage_of w rs)
+  stage_ran u q is last =
+      ap₂ (λ (x : World) (ls : List (Option ℕ)). (let g : Stage = record { world = x; lasts = ls } in g)) world lasts
+      ∙ sym (ap (with_ran versions (capacity s.registry) trace n (stage_of w rs)) run_is)
+    where
+      world : u.world ≡ (ran y r.last.0 frame w).world
+      world = ap (λ (x : WorldState). x.world) is
+
+      moment : last_of q ≡ Some (ran y r.last.0 frame w).world.moment
+      moment =
+          let same : q.last.0 ≡ next_version w.world.moment = last ∙ (ap (λ (x : World). x.moment) world ∙ ran_moment y (last_of r) frame w.world) in
+          ap last_run same ∙ (later_is_some w.world.moment ∙ ap (λ m. Some m) (sym (ran_moment y (last_of r) frame w.world)))
+
+      lasts : map last_of (slice_set rs n q) ≡ slice_set (map last_of rs) n (Some (ran y r.last.0 frame w).world.moment)
+      lasts = map_set last_of rs n q ∙ ap (slice_set (map last_of rs) n) moment
+
+  -- the line of the run, if the run traces
+  pub line_ran : trace ≡ true → y.command ≡ [] → (u : WorldState) (visits passing : ℕ) → u ≡ world_after y r.last.0 frame w
+      → visits ≡ (ran y r.last.0 frame w).visits → passing ≡ (ran y r.last.0 frame w).passing
+      → trace_text (RunLine frame y.name u.world.moment visits passing 0) ≡ text_of s trace here (stage_of w rs)
+  line_ran traces none u visits passing is visited passed =
+      ap (λ (x : WorldState). trace_text (RunLine frame y.name x.world.moment visits passing 0)) is
+      ∙ (ap₂ (λ v p. trace_text (RunLine frame y.name (ran y r.last.0 frame w).world.moment v p 0)) visited passed
+      ∙ (ap (λ k. trace_text (RunLine frame y.name (ran y r.last.0 frame w).world.moment (ran y r.last.0 frame w).visits (ran y r.last.0 frame w).passing k)) (sym (ap length (nothing_recorded versions y none (last_of r) frame w.world)))
+      ∙ (sym (ap (λ (x : RunResult). trace_text (RunLine frame y.name x.world.moment x.visits x.passing (length x.entries))) run_is)
+      ∙ (sym (append-nil _)
+      ∙ rw traces refl))))
+
+  pub no_line_ran : trace ≡ false → text_of s trace here (stage_of w rs) ≡ []
+  no_line_ran quiet = rw quiet refl

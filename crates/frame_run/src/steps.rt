@@ -1,0 +1,127 @@
+//! One step of a frame.
+ghost use Rattle.std.specs.Prelude.{◌≡◌, ◌≤◌, IfOk};
+ghost use Rattle.ent_io.specs.End.{TextCauses};
+ghost use Rattle.ent_io.specs.Text.{Writes};
+ghost use Rattle.scenario_record.specs.declared.plan.Step.TheVariants.{Run as Runs};
+ghost use Rattle.run_model.specs.declared.lines.TraceLine.TheVariants.{Run as RunLine};
+ghost use Rattle.run_model.specs.Tasks.{runs_in};
+ghost use Rattle.run_laws.specs.Runnable.{IsRunnable};
+ghost use Rattle.world_text.specs.Lines.{trace_text};
+ghost use Rattle.frame_run.specs.Ending.{RunCauses};
+ghost use Rattle.frame_run.specs.Runners.{IsReady, stage_of};
+ghost use Rattle.frame_run.specs.Simple.{IsSimple};
+ghost use Rattle.frame_run.specs.Doing.{stage_after, tasks_of_step, text_of};
+
+use crate::ends::RunEnd;
+use crate::events::do_events;
+use crate::runner::Runner;
+use ent_io::{Sink, TextEnd};
+use ent_types::Name;
+use phase_run::SystemRun;
+use run_model::TraceLine;
+use scenario_record::{Scenario, Step, SystemEntry};
+use std::alloc::Global;
+use structural_ops::World;
+use world_text::write_trace;
+
+/// `true` if a system runs in a frame.
+fn runs_in(frame: u32, system: &SystemEntry) -> bool
+    requires frame { 1 ≤ frame }
+    requires every { 1 ≤ system.now.every }
+    ensures { result ≡ runs_in frame system.now }
+{
+    (frame - 1) % system.every == 0
+}
+
+/// Writes the line of the run of a system, which recorded no commands.
+fn write_run<W: Sink>(
+    alloc: Global,
+    frame: u32,
+    system: Name,
+    run: &SystemRun,
+    out: &mut W,
+) -> Result<(), TextEnd>
+    ensures text { Writes result (trace_text (RunLine frame system run.now.world.world.moment run.now.visits run.now.passing 0)) (W.text out.old) (W.text out.new) }
+    ensures causes { TextCauses result (W.faults out.old) (W.faults out.new) }
+{
+    let line = TraceLine::Run {
+        frame,
+        system,
+        version: run.world.version().0,
+        visits: run.visits,
+        passing: run.passing,
+        commands: 0,
+    };
+    write_trace(alloc, &line, out)
+}
+
+/// Does a step of a frame, and returns the world after it. Each step goes to the next version, but a system that doesn't run in this
+/// frame does nothing.
+pub(crate) fn do_step<W: Sink>(
+    alloc: Global,
+    scenario: &Scenario,
+    trace: bool,
+    frame: u32,
+    step: Step,
+    world: World,
+    runners: &mut [Runner],
+    out: &mut W,
+) -> Result<World, RunEnd>
+    requires runnable { IsRunnable scenario.now }
+    requires simple { IsSimple scenario.now }
+    requires frame { 1 ≤ frame }
+    requires ready { IsReady scenario.now world runners.old }
+    ensures ready { IfOk result (λ w. IsReady scenario.now w runners.new) }
+    ensures stage { IfOk result (λ w. stage_of w runners.new ≡ stage_after scenario.now trace (tasks_of_step scenario.now frame step) (stage_of world runners.old)) }
+    ensures text { Writes result (text_of scenario.now trace (tasks_of_step scenario.now frame step) (stage_of world runners.old)) (W.text out.old) (W.text out.new) }
+    ensures causes { RunCauses result (W.faults out.old) (W.faults out.new) }
+{
+    match step {
+        Step::Events => {
+            let mut world = world;
+            world.raise();
+            do_events(alloc, frame, scenario.event.as_slice(), &mut world, out)?;
+            Ok(world)
+        }
+        Step::Play(_) => {
+            let mut world = world;
+            world.raise();
+            Ok(world)
+        }
+        Step::Run(number) => run_number(alloc, scenario, trace, frame, number, world, runners, out),
+    }
+}
+
+/// Runs the system with a number, if it runs in the frame, and writes a line of it if the run traces. A number of no system does
+/// nothing.
+fn run_number<W: Sink>(
+    alloc: Global,
+    scenario: &Scenario,
+    trace: bool,
+    frame: u32,
+    number: u32,
+    world: World,
+    runners: &mut [Runner],
+    out: &mut W,
+) -> Result<World, RunEnd>
+    requires runnable { IsRunnable scenario.now }
+    requires simple { IsSimple scenario.now }
+    requires frame { 1 ≤ frame }
+    requires ready { IsReady scenario.now world runners.old }
+    ensures ready { IfOk result (λ w. IsReady scenario.now w runners.new) }
+    ensures stage { IfOk result (λ w. stage_of w runners.new ≡ stage_after scenario.now trace (tasks_of_step scenario.now frame (Runs number)) (stage_of world runners.old)) }
+    ensures text { Writes result (text_of scenario.now trace (tasks_of_step scenario.now frame (Runs number)) (stage_of world runners.old)) (W.text out.old) (W.text out.new) }
+    ensures causes { RunCauses result (W.faults out.old) (W.faults out.new) }
+{
+    let Some(system) = scenario.system.as_slice().get(number as usize) else {
+        return Ok(world);
+    };
+    if !runs_in(frame, system) {
+        return Ok(world);
+    }
+    let run = runners[number as usize].run(alloc, world, system, frame)?;
+    if trace {
+        write_run(alloc, frame, system.name, &run, out)?;
+    }
+    Ok(run.world)
+}
