@@ -84,7 +84,7 @@ module _ (registry : List TypeInfo) where
           subst (λ u. IsRunnerOf registry archetypes u q) system (subst (IsRunnerOf registry archetypes s) runner is)
 
       by : (m : ℕ) (t : SystemEntry) (q : Runner) → slice_get ss m ≡ Some t → slice_get (slice_set rs n r) m ≡ Some q → (b : Bool) → nat_eq m n ≡ b → IsRunnerOf registry archetypes t q
-      by m t q i j true e = here m t q i j (grind e)
+      by m t q i j true e = here m t q i j (grind (arith, e))
       by m t q i j false e = h.each m t q i (sym (set_elsewhere rs n m r (λ same. differs e same)) ∙ j)
 
 pub first_is : (s : Scenario) (w : WorldState) (rs : List Runner) → w.world ≡ spawned (capacity s.registry) s s.first_system_version → length rs ≡ length s.system → never_ran rs

@@ -1,4 +1,4 @@
-use Rattle.std.proofs.Common.{◌≡◌, ◌∙◌, ap, sym, subst, Some, arith, length}
+use Rattle.std.proofs.Common.{◌≡◌, ◌+◌, ◌∙◌, ap, sym, subst, Some, arith, length}
 use Rattle.std.proofs.lemmas.Option.{slice_get-get_or}
 use Rattle.item_run.proofs.Done.{in_at}
 use Rattle.frame_run.proofs.Found.{AreFirst, all_runners, one_runner}
