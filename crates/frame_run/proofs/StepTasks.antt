@@ -1,5 +1,5 @@
 -- The task of a step of the plan, and what the run of a system makes of the stage.
-use Rattle.std.proofs.Common.{◌≡◌, ℕ, ◌+◌, nat_eq, Bool, true, false, if◌then◌else◌, List, [], ◌∷◌, ◌++◌, map, length, Option, Some, None, refl, sym, ap, ap₂, ◌∙◌, subst, slice_get}
+use Rattle.std.proofs.Common.{◌≡◌, ℕ, ◌+◌, nat_eq, Bool, true, false, if◌then◌else◌, List, [], ◌∷◌, ◌++◌, map, length, Option, Some, None, refl, sym, ap, ap₂, ◌∙◌, subst, slice_get, arith}
 use Rattle.std.specs.Prelude.{slice_set, unwrap_or, ◌==◌}
 use Rattle.std.proofs.lemmas.List.{append-nil}
 use Rattle.system_version.specs.Versions.{next_version}
@@ -36,11 +36,14 @@ module _ (s : Scenario) (frame n : ℕ) where
 
 -- no version is 0
 later_is_some : (version : ℕ) → last_run (next_version version) ≡ Some (next_version version)
-later_is_some version = by (version == LAST_VERSION)
+later_is_some version = positive (next_version version) (by (version == LAST_VERSION))
   where
-    by : (b : Bool) → last_run (if b then 1 else version + 1) ≡ Some (if b then 1 else version + 1)
+    by : (b : Bool) → nat_eq (if b then 1 else version + 1) 0 ≡ false
     by true = refl
-    by false = refl
+    by false = omega arith
+
+    positive : (n : ℕ) → nat_eq n 0 ≡ false → last_run n ≡ Some n
+    positive n above = rw above refl
 
 ran_moment : (y : SystemEntry) (last : Option ℕ) (frame : ℕ) (w : World) → (run versions y last frame w).world.moment ≡ next_version w.moment
 unfolding run
