@@ -18,6 +18,7 @@ use crate::runner::Runner;
 use ent_io::{Sink, TextEnd};
 use ent_types::Name;
 use phase_run::SystemRun;
+use query_select::a_cache_stays_with_more_archetypes;
 use run_model::TraceLine;
 use scenario_record::{Scenario, Step, SystemEntry};
 use std::alloc::Global;
@@ -98,6 +99,7 @@ pub(crate) fn do_step<W: Sink>(
         Step::Events => {
             let mut world = world;
             world.raise();
+            a_cache_stays_with_more_archetypes();
             do_events(alloc, frame, scenario.event.as_slice(), &mut world, out)?;
             Ok(world)
         }
