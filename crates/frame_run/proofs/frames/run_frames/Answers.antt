@@ -1,15 +1,17 @@
-use Rattle.std.proofs.Common.{◌≡◌, ◌∙◌, ◌+◌, ◌-◌, ap, sym, subst, refl, arith}
+use Rattle.std.proofs.Common.{◌≡◌, ◌∙◌, ◌+◌, ◌-◌, ap, sym, subst, refl, arith, List}
 use Rattle.ent_io.proofs.Exits.{exit_writes}
-use Rattle.run_model.specs.Tasks.{tasks_of}
+use Rattle.run_model.specs.Tasks.{Task, tasks_of}
 use Rattle.frame_run.specs.Doing.{tasks_of_steps}
 use Rattle.frame_run.specs.Runners.{stage_of}
 use Rattle.frame_run.specs.Stages.{no_files}
-use Rattle.frame_run.proofs.Loops.{begins, ends_stage, ends_text, frames_left, goes_on, next_frame, no_frame, stops}
+use Rattle.frame_run.proofs.Loops.{IsUnderway, all_frames, begins, ends_stage, ends_text, frames_left, goes_on, next_frame, no_frame, stops}
 use Rattle.frame_run.proofs.frames.run_frames.Goals as goal
 
 pub loop-before-init : goal.loop-before-init
 loop-before-init g c = record {
-  underway = begins c.args.scenario.now c.args.trace (tasks_of no_files c.args.scenario.now c.args.steps.now) (stage_of c.args.world c.args.runners.now) (g.W.Sink.text c.args.out.now);
+  underway = subst (λ (left : List Task). IsUnderway c.args.scenario.now c.args.trace (tasks_of no_files c.args.scenario.now c.args.steps.now) left (stage_of c.args.world c.args.runners.now) (stage_of c.args.world c.args.runners.now) (g.W.Sink.text c.args.out.now) (g.W.Sink.text c.args.out.now))
+      (sym (all_frames c.args.scenario.now c.args.steps.now))
+      (begins c.args.scenario.now c.args.trace (tasks_of no_files c.args.scenario.now c.args.steps.now) (stage_of c.args.world c.args.runners.now) (g.W.Sink.text c.args.out.now));
   ready = c.requires.ready;
   faults = refl;
 }

@@ -95,7 +95,7 @@ returns-in_err-trace_run-clause-text g c =
     let r = get_or rs n c.index-runners-number.result in
     let there = runner_at s n y c.as_slice.result.now c.as_slice.ensures c.in-Some.ensures.lookup.3.0 rs c.index-runners-number.result c.requires.ready.runners.count in
     let line = line_ran s c.args.trace c.args.frame n y w rs r there (c.requires.simple.commands y (got_in s.system n y at)) c.in_ok-run.run'.world c.in_ok-run.run'.visits c.in_ok-run.run'.passing
-        c.in_ok-run.ensures.world c.in_ok-run.ensures.visits c.in_ok-run.ensures.passing ∙ sym (ap (λ (ts : List Task). text_of s c.args.trace ts first) tasks) in
+    c.in_ok-run.ensures.world c.in_ok-run.ensures.visits c.in_ok-run.ensures.passing ∙ sym (ap (λ (ts : List Task). text_of s c.args.trace ts first) tasks) in
     exit_writes _ _ _ _ c.from_residual-in_err-trace_run.ensures.0
     (subst (λ text. AppendsPrefix text (g.W.Sink.text c.args.out.now) (g.W.Sink.text c.trace_run.new.out)) line c.in_err-trace_run.ensures.text)
 
@@ -145,5 +145,5 @@ returns-clause-text g c =
     let r = get_or rs n c.index-runners-number.result in
     let there = runner_at s n y c.as_slice.result.now c.as_slice.ensures c.in-Some.ensures.lookup.3.0 rs c.index-runners-number.result c.requires.ready.runners.count in
     let line = line_ran s c.args.trace c.args.frame n y w rs r there (c.requires.simple.commands y (got_in s.system n y at)) c.in_ok-run.run'.world c.in_ok-run.run'.visits c.in_ok-run.run'.passing
-        c.in_ok-run.ensures.world c.in_ok-run.ensures.visits c.in_ok-run.ensures.passing ∙ sym (ap (λ (ts : List Task). text_of s c.args.trace ts first) tasks) in
+    c.in_ok-run.ensures.world c.in_ok-run.ensures.visits c.in_ok-run.ensures.passing ∙ sym (ap (λ (ts : List Task). text_of s c.args.trace ts first) tasks) in
     c.in_ok-trace_run.ensures.text ∙ ap (appended (g.W.Sink.text c.args.out.now)) line
