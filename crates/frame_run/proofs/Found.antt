@@ -1,7 +1,8 @@
 -- Runners by the numbers of their systems.
-use Rattle.std.proofs.Common.{arith, ◌≡◌, ℕ, ◌+◌, ◌⊎◌, zero, suc, nat_eq, Bool, true, false, List, [], ◌∷◌, ◌++◌, map, length, Option, Some, None, refl, sym, ap, ap₂, ◌∙◌, subst, slice_get, inl, inr}
+use Rattle.std.proofs.Common.{◌≤◌, ◌<◌, get_or, arith, ◌≡◌, ℕ, ◌+◌, ◌⊎◌, zero, suc, nat_eq, Bool, true, false, List, [], ◌∷◌, ◌++◌, map, length, Option, Some, None, refl, sym, ap, ap₂, ◌∙◌, subst, slice_get, inl, inr}
 use Rattle.std.specs.Prelude.{slice_set, replicate, unwrap_or}
 use Rattle.std.proofs.lemmas.List.{length_push}
+use Rattle.std.proofs.lemmas.Option.{slice_get-get_or}
 use Rattle.world_model.specs.Members.{In}
 use Rattle.world_laws.proofs.Members.{in_append}
 use Rattle.ent_types.specs.declared.type_info.TypeInfo.{TypeInfo}
@@ -48,6 +49,15 @@ module _ {A B : Type 0} (f : A → B) where
   map_found [] n x e = cc
   map_found (y ∷ ys) zero x e = let same : y ≡ x = cc in ap (λ z. Some (f z)) same
   map_found (y ∷ ys) (suc n) x e = map_found ys n x e
+
+module _ {A : Type 0} where
+  pub past_none : (xs : List A) (n : ℕ) → length xs ≤ n → slice_get xs n ≡ None
+  past_none [] n past = refl
+  past_none (x ∷ xs) zero past = absurd (omega (arith, past))
+  past_none (x ∷ xs) (suc n) past = past_none xs n (omega (arith, past))
+
+  pub at_place : (xs : List A) (n : ℕ) (x : A) → n < length xs → x ≡ get_or xs n x → slice_get xs n ≡ Some x
+  at_place xs n x below is = slice_get-get_or xs n x below ∙ ap Some (sym is)
 
 -- a list of one value
 pub all_alike : (rs : List Runner) → never_ran rs → map last_of rs ≡ replicate (length rs) None

@@ -2,6 +2,7 @@ mod Simply
 mod Courses
 mod Files
 mod Whole
+mod Closing
 mod Found
 mod EventLoop
 mod Loops

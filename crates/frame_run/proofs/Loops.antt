@@ -90,3 +90,6 @@ next_frame s steps k below =
 
 pub no_frame : (s : Scenario) (steps : List Step) (k : ℕ) → s.frames - k ≡ 0 → frames_left s steps k ≡ []
 no_frame s steps k none = ap (λ (n : ℕ). flat_map (λ frame. tasks_of_steps s frame steps) (range_with_len (1 + k) n)) none
+
+pub all_frames : (s : Scenario) (steps : List Step) → frames_left s steps 0 ≡ tasks_of no_files s steps
+all_frames s steps = ap (λ (n : ℕ). flat_map (λ frame. tasks_of_steps s frame steps) (range_with_len 1 n)) (let whole : s.frames - 0 ≡ s.frames = omega arith in whole)

@@ -63,7 +63,16 @@ pub(crate) fn run_frames<W: Sink>(
 {
     let mut world = world;
     for before in 0..scenario.frames {
-        world = run_frame(alloc, scenario, trace, before + 1, steps, world, runners, out)?;
+        world = run_frame(
+            alloc,
+            scenario,
+            trace,
+            before + 1,
+            steps,
+            world,
+            runners,
+            out,
+        )?;
     }
     Ok(world)
 }

@@ -49,7 +49,7 @@ loop-number-preserved g c =
     let inv = c.loop-number.invariant in
     let here : drop k es ≡ e ∷ drop (k + 1) es = drop_more es k e c.loop-number-test.true ∙ ap (λ (x : EventEntry). x ∷ drop (k + 1) es) (sym c.index-events-number.is) in
     elim c.if-event-frame.branch [
-      then-event-frame+in_ok-do_event b ↦
+      | then-event-frame+in_ok-do_event b ↦
           (let world : b.do_event.new.world.world ≡ after_event (capacity r) frame w this =
           subst (λ (q : List TypeInfo). b.do_event.new.world.world ≡ after_event (capacity q) frame w (frame_event_of no_files q frame k e.act)) inv.types b.in_ok-do_event.ensures.world in
           record {
@@ -65,7 +65,7 @@ loop-number-preserved g c =
                 (grows_then c.args.world.now.archetypes c.loop-number.world.archetypes b.do_event.new.world.archetypes inv.grows b.in_ok-do_event.ensures.archetypes);
             faults = ap g.W.Sink.faults b.out-is ∙ (b.in_ok-do_event.ensures.causes ∙ inv.faults);
           })
-    | else-event-frame b ↦
+      | else-event-frame b ↦
           record {
             underway = subst (λ (x : WorldState). AreUnderway (capacity r) frame (events_at r frame 0 es) (events_at r frame (k + 1) (drop (k + 1) es)) c.args.world.now.world x.world (g.W.Sink.text c.args.out.now) (g.W.Sink.text c.if-event-frame.out)) (sym b.world-is)
                 (subst (λ text. AreUnderway (capacity r) frame (events_at r frame 0 es) (events_at r frame (k + 1) (drop (k + 1) es)) c.args.world.now.world w (g.W.Sink.text c.args.out.now) text) (sym (ap g.W.Sink.text b.out-is))
