@@ -1,5 +1,5 @@
 -- The events of a frame, one after another.
-use Rattle.std.proofs.Common.{◌≡◌, ℕ, ◌+◌, ◌<◌, nat_eq, Bool, true, false, if◌then◌else◌, List, [], ◌∷◌, ◌++◌, map, Option, Some, None, refl, sym, ap, ◌∙◌, subst, get_or, drop, length}
+use Rattle.std.proofs.Common.{arith, eq-eqb, ◌≡◌, ℕ, ◌+◌, ◌<◌, nat_eq, Bool, true, false, if◌then◌else◌, List, [], ◌∷◌, ◌++◌, map, Option, Some, None, refl, sym, ap, ◌∙◌, subst, get_or, drop, length}
 use Rattle.std.specs.List.{flat_map}
 use Rattle.std.proofs.lemmas.List.{drop_more}
 use Rattle.std.proofs.lemmas.List.Concat.{flat_map-append}
@@ -21,13 +21,13 @@ use Rattle.world_text.specs.Lines.{line_text, lines_text, note_text}
 use Rattle.frame_run.specs.Stages.{after_event, after_events, events_at, lines_of_event, lines_of_events, no_files}
 
 -- the first of some events is of this frame, or of another one
-pub event_due : (registry : List TypeInfo) (frame k : ℕ) (e : EventEntry) (es : List EventEntry) → nat_eq e.frame frame ≡ true
+pub event_due : (registry : List TypeInfo) (frame k : ℕ) (e : EventEntry) (es : List EventEntry) → e.frame ≡ frame
     → events_at registry frame k (e ∷ es) ≡ frame_event_of no_files registry frame k e.act ∷ events_at registry frame (k + 1) es
-event_due registry frame k e es due = ap (λ (b : Bool). (if b then frame_event_of no_files registry frame k e.act ∷ [] else []) ++ events_at registry frame (k + 1) es) due
+event_due registry frame k e es due = ap (λ (b : Bool). (if b then frame_event_of no_files registry frame k e.act ∷ [] else []) ++ events_at registry frame (k + 1) es) (eq-eqb e.frame frame due)
 
-pub event_not_due : (registry : List TypeInfo) (frame k : ℕ) (e : EventEntry) (es : List EventEntry) → nat_eq e.frame frame ≡ false
+pub event_not_due : (registry : List TypeInfo) (frame k : ℕ) (e : EventEntry) (es : List EventEntry) → (e.frame ≡ frame → ⊥)
     → events_at registry frame k (e ∷ es) ≡ events_at registry frame (k + 1) es
-event_not_due registry frame k e es other = ap (λ (b : Bool). (if b then frame_event_of no_files registry frame k e.act ∷ [] else []) ++ events_at registry frame (k + 1) es) other
+event_not_due registry frame k e es other = ap (λ (b : Bool). (if b then frame_event_of no_files registry frame k e.act ∷ [] else []) ++ events_at registry frame (k + 1) es) (let off : nat_eq e.frame frame ≡ false = grind (arith, other) in off)
 
 -- ---- events keep the types
 

@@ -1,7 +1,8 @@
 -- Runners by the numbers of their systems.
-use Rattle.std.proofs.Common.{◌≡◌, ℕ, ◌+◌, ◌⊎◌, zero, suc, nat_eq, Bool, true, false, List, [], ◌∷◌, ◌++◌, map, length, Option, Some, None, refl, sym, ap, ap₂, ◌∙◌, subst, slice_get, inl, inr}
+use Rattle.std.proofs.Common.{◌≤◌, ◌<◌, get_or, arith, ◌≡◌, ℕ, ◌+◌, ◌⊎◌, zero, suc, nat_eq, Bool, true, false, List, [], ◌∷◌, ◌++◌, map, length, Option, Some, None, refl, sym, ap, ap₂, ◌∙◌, subst, slice_get, inl, inr}
 use Rattle.std.specs.Prelude.{slice_set, replicate, unwrap_or}
 use Rattle.std.proofs.lemmas.List.{length_push}
+use Rattle.std.proofs.lemmas.Option.{slice_get-get_or}
 use Rattle.world_model.specs.Members.{In}
 use Rattle.world_laws.proofs.Members.{in_append}
 use Rattle.ent_types.specs.declared.type_info.TypeInfo.{TypeInfo}
@@ -31,12 +32,12 @@ module _ {A : Type 0} where
   set_there (z ∷ zs) zero x y e = cc
   set_there (z ∷ zs) (suc n) x y e = set_there zs n x y e
 
-  pub set_elsewhere : (xs : List A) (n m : ℕ) (x : A) → nat_eq m n ≡ false → slice_get (slice_set xs n x) m ≡ slice_get xs m
+  pub set_elsewhere : (xs : List A) (n m : ℕ) (x : A) → (m ≡ n → ⊥) → slice_get (slice_set xs n x) m ≡ slice_get xs m
   set_elsewhere [] n m x other = refl
-  set_elsewhere (z ∷ zs) zero zero x other = cc
+  set_elsewhere (z ∷ zs) zero zero x other = absurd (other refl)
   set_elsewhere (z ∷ zs) zero (suc m) x other = refl
   set_elsewhere (z ∷ zs) (suc n) zero x other = refl
-  set_elsewhere (z ∷ zs) (suc n) (suc m) x other = set_elsewhere zs n m x other
+  set_elsewhere (z ∷ zs) (suc n) (suc m) x other = set_elsewhere zs n m x (λ e. other (ap suc e))
 
 module _ {A B : Type 0} (f : A → B) where
   pub map_set : (xs : List A) (n : ℕ) (x : A) → map f (slice_set xs n x) ≡ slice_set (map f xs) n (f x)
@@ -48,6 +49,15 @@ module _ {A B : Type 0} (f : A → B) where
   map_found [] n x e = cc
   map_found (y ∷ ys) zero x e = let same : y ≡ x = cc in ap (λ z. Some (f z)) same
   map_found (y ∷ ys) (suc n) x e = map_found ys n x e
+
+module _ {A : Type 0} where
+  pub past_none : (xs : List A) (n : ℕ) → length xs ≤ n → slice_get xs n ≡ None
+  past_none [] n past = refl
+  past_none (x ∷ xs) zero past = absurd (omega (arith, past))
+  past_none (x ∷ xs) (suc n) past = past_none xs n (omega (arith, past))
+
+  pub at_place : (xs : List A) (n : ℕ) (x : A) → n < length xs → x ≡ get_or xs n x → slice_get xs n ≡ Some x
+  at_place xs n x below is = slice_get-get_or xs n x below ∙ ap Some (sym is)
 
 -- a list of one value
 pub all_alike : (rs : List Runner) → never_ran rs → map last_of rs ≡ replicate (length rs) None
@@ -74,6 +84,9 @@ module _ (registry : List TypeInfo) where
     each = λ m t q i j. by m t q i j (nat_eq m n) refl;
   }
     where
+      differs : {m : ℕ} → nat_eq m n ≡ false → m ≡ n → ⊥
+      differs e same = grind (arith, e, same)
+
       here : (m : ℕ) (t : SystemEntry) (q : Runner) → slice_get ss m ≡ Some t → slice_get (slice_set rs n r) m ≡ Some q → m ≡ n → IsRunnerOf registry archetypes t q
       here m t q i j same =
           let system : s ≡ t = (let both : Some s ≡ Some t = sym at ∙ (ap (slice_get ss) (sym same) ∙ i) in cc) in
@@ -81,8 +94,8 @@ module _ (registry : List TypeInfo) where
           subst (λ u. IsRunnerOf registry archetypes u q) system (subst (IsRunnerOf registry archetypes s) runner is)
 
       by : (m : ℕ) (t : SystemEntry) (q : Runner) → slice_get ss m ≡ Some t → slice_get (slice_set rs n r) m ≡ Some q → (b : Bool) → nat_eq m n ≡ b → IsRunnerOf registry archetypes t q
-      by m t q i j true e = here m t q i j (grind e)
-      by m t q i j false e = h.each m t q i (sym (set_elsewhere rs n m r e) ∙ j)
+      by m t q i j true e = here m t q i j (grind (arith, e))
+      by m t q i j false e = h.each m t q i (sym (set_elsewhere rs n m r (λ same. differs e same)) ∙ j)
 
 pub first_is : (s : Scenario) (w : WorldState) (rs : List Runner) → w.world ≡ spawned (capacity s.registry) s s.first_system_version → length rs ≡ length s.system → never_ran rs
     → stage_of w rs ≡ first_stage s

@@ -6,3 +6,4 @@ mod Found
 mod EventLoop
 mod Loops
 mod StepTasks
+mod CommandReading

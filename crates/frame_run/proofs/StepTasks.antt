@@ -1,7 +1,14 @@
 -- The task of a step of the plan, and what the run of a system makes of the stage.
-use Rattle.std.proofs.Common.{◌≡◌, ℕ, ◌+◌, nat_eq, Bool, true, false, if◌then◌else◌, List, [], ◌∷◌, ◌++◌, map, length, Option, Some, None, refl, sym, ap, ap₂, ◌∙◌, subst, slice_get}
-use Rattle.std.specs.Prelude.{slice_set, unwrap_or, ◌==◌}
+use Rattle.std.proofs.Common.{◌<◌, get_or, Result, Ok, Err, ◌≡◌, ℕ, ◌+◌, nat_eq, Bool, true, false, if◌then◌else◌, List, [], ◌∷◌, ◌++◌, map, length, Option, Some, None, refl, sym, ap, ap₂, ◌∙◌, subst, slice_get, arith}
+use Rattle.std.specs.Prelude.{IsErrAnd, slice_set, unwrap_or, ◌==◌}
 use Rattle.std.proofs.lemmas.List.{append-nil}
+use Rattle.std.proofs.lemmas.Option.{slice_get-get_or}
+use Rattle.ent_io.specs.End.{TextCause}
+use Rattle.ent_io.specs.declared.end.TextEnd.{TextEnd}
+use Rattle.ent_types.specs.declared.type_info.TypeInfo.{TypeInfo}
+use Rattle.run_laws.proofs.RunLawful.{run_registry}
+use Rattle.frame_run.specs.declared.ends.RunEnd.{RunEnd}
+use Rattle.frame_run.specs.Ending.{RunCauses}
 use Rattle.system_version.specs.Versions.{next_version}
 use Rattle.system_version.specs.declared.version.TheConstants.{LAST_VERSION}
 use Rattle.world_model.specs.World.{World, capacity}
@@ -19,10 +26,10 @@ use Rattle.phase_run.specs.After.{ran, world_after}
 use Rattle.world_text.specs.Lines.{lines_text, trace_text}
 use Rattle.frame_run.specs.declared.runner.Runner.{Runner}
 use Rattle.frame_run.specs.Doing.{stage_after, task_in, tasks_of_step, text_of}
-use Rattle.frame_run.specs.Runners.{stage_of}
+use Rattle.frame_run.specs.Runners.{AreRunnersOf, IsReady, IsRunnerOf, stage_of}
 use Rattle.frame_run.specs.Stages.{Stage, no_files, run_of, with_ran}
 use Rattle.frame_run.proofs.Courses.{nothing_recorded}
-use Rattle.frame_run.proofs.Found.{last_of, map_found, map_set}
+use Rattle.frame_run.proofs.Found.{at_place, last_of, map_found, map_set, runner_put}
 
 module _ (s : Scenario) (frame n : ℕ) where
   pub no_task : slice_get s.system n ≡ None → tasks_of_step s frame (Run n) ≡ []
@@ -36,11 +43,14 @@ module _ (s : Scenario) (frame n : ℕ) where
 
 -- no version is 0
 later_is_some : (version : ℕ) → last_run (next_version version) ≡ Some (next_version version)
-later_is_some version = by (version == LAST_VERSION)
+later_is_some version = positive (next_version version) (by (version == LAST_VERSION))
   where
-    by : (b : Bool) → last_run (if b then 1 else version + 1) ≡ Some (if b then 1 else version + 1)
+    by : (b : Bool) → nat_eq (if b then 1 else version + 1) 0 ≡ false
     by true = refl
-    by false = refl
+    by false = grind arith
+
+    positive : (n : ℕ) → nat_eq n 0 ≡ false → last_run n ≡ Some n
+    positive n above = rw above refl
 
 ran_moment : (y : SystemEntry) (last : Option ℕ) (frame : ℕ) (w : World) → (run versions y last frame w).world.moment ≡ next_version w.moment
 unfolding run
@@ -75,10 +85,10 @@ module _ (s : Scenario) (trace : Bool) (frame n : ℕ) (y : SystemEntry) (w : Wo
       lasts = map_set last_of rs n q ∙ ap (slice_set (map last_of rs) n) moment
 
   -- the line of the run, if the run traces
-  pub line_ran : trace ≡ true → y.command ≡ [] → (u : WorldState) (visits passing : ℕ) → u ≡ world_after y r.last.0 frame w
+  line_traced : trace ≡ true → y.command ≡ [] → (u : WorldState) (visits passing : ℕ) → u ≡ world_after y r.last.0 frame w
       → visits ≡ (ran y r.last.0 frame w).visits → passing ≡ (ran y r.last.0 frame w).passing
       → trace_text (RunLine frame y.name u.world.moment visits passing 0) ≡ text_of s trace here (stage_of w rs)
-  line_ran traces none u visits passing is visited passed =
+  line_traced traces none u visits passing is visited passed =
       ap (λ (x : WorldState). trace_text (RunLine frame y.name x.world.moment visits passing 0)) is
       ∙ (ap₂ (λ v p. trace_text (RunLine frame y.name (ran y r.last.0 frame w).world.moment v p 0)) visited passed
       ∙ (ap (λ k. trace_text (RunLine frame y.name (ran y r.last.0 frame w).world.moment (ran y r.last.0 frame w).visits (ran y r.last.0 frame w).passing k)) (sym (ap length (nothing_recorded versions y none (last_of r) frame w.world)))
@@ -86,5 +96,34 @@ module _ (s : Scenario) (trace : Bool) (frame n : ℕ) (y : SystemEntry) (w : Wo
       ∙ (sym (append-nil _)
       ∙ rw traces refl))))
 
-  pub no_line_ran : trace ≡ false → text_of s trace here (stage_of w rs) ≡ []
-  no_line_ran quiet = rw quiet refl
+  pub line_ran : y.command ≡ [] → (u : WorldState) (visits passing : ℕ) → u ≡ world_after y r.last.0 frame w
+      → visits ≡ (ran y r.last.0 frame w).visits → passing ≡ (ran y r.last.0 frame w).passing
+      → (if trace then trace_text (RunLine frame y.name u.world.moment visits passing 0) else []) ≡ text_of s trace here (stage_of w rs)
+  line_ran none u visits passing is visited passed = by trace refl
+    where
+      by : (b : Bool) → trace ≡ b → (if b then trace_text (RunLine frame y.name u.world.moment visits passing 0) else []) ≡ text_of s trace here (stage_of w rs)
+      by true traces = line_traced traces none u visits passing is visited passed
+      by false quiet = rw quiet refl
+
+-- what an error says of the counts
+pub run_cause : {T : Type 0} (r : Result T RunEnd) (e : TextEnd) (before now : ℕ) → IsErrAnd r (λ end. end.cause ≡ e) → TextCause e before now → RunCauses r before now
+run_cause (Ok value) e before now is cause = absurd is
+run_cause (Err end) e before now is cause = subst (λ x. TextCause x before now) (sym is) cause
+
+-- ---- what is at hand when a system runs
+
+module _ (s : Scenario) (n : ℕ) (y : SystemEntry) (given : List SystemEntry) (same : given ≡ s.system) (below : n < length given) where
+  pub system_at : y ≡ get_or given n y → slice_get s.system n ≡ Some y
+  system_at is = subst (λ (ss : List SystemEntry). slice_get ss n ≡ Some y) same (at_place given n y below is)
+
+  pub runner_at : (rs : List Runner) (d : Runner) → length rs ≡ length s.system → slice_get rs n ≡ Some (get_or rs n d)
+  runner_at rs d count = slice_get-get_or rs n d (let long = ap (λ (ss : List SystemEntry). length ss) same in omega (arith, count, long, below))
+
+-- the runners after the run of a system
+pub ready_after : (s : Scenario) (frame n : ℕ) (y : SystemEntry) (w u : WorldState) (rs : List Runner) (last : ℕ) (q : Runner) → IsReady s w rs → slice_get s.system n ≡ Some y
+    → u ≡ world_after y last frame w → IsRunnerOf w.world.registry w.archetypes y q → IsReady s u (slice_set rs n q)
+ready_after s frame n y w u rs last q h at is runner = record {
+  registry = ap (λ (x : WorldState). x.world.registry) is ∙ (run_registry versions y (last_run last) frame w.world ∙ h.registry);
+  runners = subst (λ (archetypes : List (List ℕ)). AreRunnersOf s.registry archetypes s.system (slice_set rs n q)) (sym (ap (λ (x : WorldState). x.archetypes) is))
+      (runner_put s.registry w.archetypes s.system rs n y q h.runners at (subst (λ (r : List TypeInfo). IsRunnerOf r w.archetypes y q) h.registry runner));
+}

@@ -1,5 +1,7 @@
 //! Why a run stopped before its end.
-use ent_io::{End, Status, TextEnd};
+ghost use Rattle.std.specs.Prelude.{◌≡◌};
+
+use ent_io::TextEnd;
 use ent_types::Memory;
 
 /// Why a run stopped before its end. A prefix of its text was written.

@@ -1,5 +1,5 @@
 //! The systems of a scenario with what their runs need and leave.
-ghost use Rattle.std.specs.Prelude.{◌≡◌, [], List, IfOk, OnOk};
+ghost use Rattle.std.specs.Prelude.{◌≡◌, ℕ, [], List, IfOk, OnOk};
 ghost use Rattle.world_model.specs.Members.{In};
 ghost use Rattle.scenario_record.specs.declared.record.SystemEntry.{SystemEntry as SystemState};
 ghost use Rattle.run_laws.specs.Runnable.{SystemRuns};

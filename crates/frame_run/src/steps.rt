@@ -1,5 +1,5 @@
 //! One step of a frame.
-ghost use Rattle.std.specs.Prelude.{◌≡◌, ◌≤◌, IfOk};
+ghost use Rattle.std.specs.Prelude.{◌≡◌, ◌≤◌, if◌then◌else◌, [], IfOk};
 ghost use Rattle.ent_io.specs.End.{TextCauses};
 ghost use Rattle.ent_io.specs.Text.{Writes};
 ghost use Rattle.scenario_record.specs.declared.plan.Step.TheVariants.{Run as Runs};
@@ -18,6 +18,7 @@ use crate::runner::Runner;
 use ent_io::{Sink, TextEnd};
 use ent_types::Name;
 use phase_run::SystemRun;
+use query_select::a_cache_stays_with_more_archetypes;
 use run_model::TraceLine;
 use scenario_record::{Scenario, Step, SystemEntry};
 use std::alloc::Global;
@@ -55,6 +56,24 @@ fn write_run<W: Sink>(
     write_trace(alloc, &line, out)
 }
 
+/// Writes the line of the run of a system, if the run of the scenario traces.
+fn trace_run<W: Sink>(
+    alloc: Global,
+    trace: bool,
+    frame: u32,
+    system: Name,
+    run: &SystemRun,
+    out: &mut W,
+) -> Result<(), TextEnd>
+    ensures text { Writes result (if trace then trace_text (RunLine frame system run.now.world.world.moment run.now.visits run.now.passing 0) else []) (W.text out.old) (W.text out.new) }
+    ensures causes { TextCauses result (W.faults out.old) (W.faults out.new) }
+{
+    if !trace {
+        return Ok(());
+    }
+    write_run(alloc, frame, system, run, out)
+}
+
 /// Does a step of a frame, and returns the world after it. Each step goes to the next version, but a system that doesn't run in this
 /// frame does nothing.
 pub(crate) fn do_step<W: Sink>(
@@ -80,6 +99,7 @@ pub(crate) fn do_step<W: Sink>(
         Step::Events => {
             let mut world = world;
             world.raise();
+            a_cache_stays_with_more_archetypes();
             do_events(alloc, frame, scenario.event.as_slice(), &mut world, out)?;
             Ok(world)
         }
@@ -120,8 +140,6 @@ fn run_number<W: Sink>(
         return Ok(world);
     }
     let run = runners[number as usize].run(alloc, world, system, frame)?;
-    if trace {
-        write_run(alloc, frame, system.name, &run, out)?;
-    }
+    trace_run(alloc, trace, frame, system.name, &run, out)?;
     Ok(run.world)
 }
