@@ -3,4 +3,3 @@ mod Ends
 mod Layouts
 mod Merged
 mod Numerals
-mod Unshared

@@ -1,7 +1,7 @@
 mod Simply
 mod Courses
 mod Files
-mod Whole
+pub mod Whole
 mod Closing
 mod Found
 mod EventLoop

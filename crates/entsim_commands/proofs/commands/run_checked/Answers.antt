@@ -1,8 +1,10 @@
 use Rattle.std.proofs.Common.{sym, ◌∙◌}
+use Rattle.frame_run.proofs.Whole.{whole_status}
 use Rattle.frame_run.specs.Stages.{no_files}
+use Rattle.run_laws.proofs.RunVersions.{run_turned}
+use Rattle.system_version.specs.Versions.{version_of}
 use Rattle.entsim_commands.proofs.Built.{built_is_simple}
 use Rattle.entsim_commands.proofs.Ends.{ends_built, ends_unbuilt, run_ends, run_unshared}
-use Rattle.entsim_commands.proofs.Unshared.{simple_run_is_done}
 use Rattle.entsim_commands.proofs.commands.run_checked.Goals as goal
 
 pub returns-then-not-is_built-clause-headline : goal.returns-then-not-is_built-clause-headline
@@ -18,5 +20,8 @@ returns-clause-headline g c =
 
 pub returns-clause-words : goal.returns-clause-words
 returns-clause-words g c =
-    run_unshared _ _ _ _ _ (simple_run_is_done _ (built_is_simple _ (sym c.is_built.ensures ∙ c.if-not-is_built.false)) _ no_files)
-    (c.run_frames_serial.ensures.run no_files)
+    let s = c.args.checked.now.scenario in
+    let run = c.requires.runnable in
+    run_unshared _ _ _ _ _
+    (whole_status s (built_is_simple _ (sym c.is_built.ensures ∙ c.if-not-is_built.false)) c.args.trace no_files (version_of s.first_system_version)
+    (run_turned c.args.trace no_files s run.first_system_version c.requires.ordered run.frames run.few_systems)) (c.run_frames_serial.ensures.run no_files)
