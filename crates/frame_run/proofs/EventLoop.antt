@@ -1,5 +1,5 @@
 -- The events of a frame, one after another.
-use Rattle.std.proofs.Common.{arith, eq-eqb, ◌≡◌, ℕ, ◌+◌, ◌<◌, nat_eq, Bool, true, false, if◌then◌else◌, List, [], ◌∷◌, ◌++◌, map, Option, Some, None, refl, sym, ap, ◌∙◌, subst, get_or, drop, length}
+use Rattle.std.proofs.Common.{Result, Ok, Err, OnOk, arith, eq-eqb, ◌≡◌, ℕ, ◌+◌, ◌<◌, nat_eq, Bool, true, false, if◌then◌else◌, List, [], ◌∷◌, ◌++◌, map, Option, Some, None, refl, sym, ap, ◌∙◌, subst, get_or, drop, length}
 use Rattle.std.specs.List.{flat_map}
 use Rattle.std.proofs.lemmas.List.{drop_more}
 use Rattle.std.proofs.lemmas.List.Concat.{flat_map-append}
@@ -28,6 +28,11 @@ event_due registry frame k e es due = ap (λ (b : Bool). (if b then frame_event_
 pub event_not_due : (registry : List TypeInfo) (frame k : ℕ) (e : EventEntry) (es : List EventEntry) → (e.frame ≡ frame → ⊥)
     → events_at registry frame k (e ∷ es) ≡ events_at registry frame (k + 1) es
 event_not_due registry frame k e es other = ap (λ (b : Bool). (if b then frame_event_of no_files registry frame k e.act ∷ [] else []) ++ events_at registry frame (k + 1) es) (let off : nat_eq e.frame frame ≡ false = grind (arith, other) in off)
+
+-- two facts of a call that succeeded, and what follows of both
+pub both_ok : {T E : Type 0} (r : Result T E) (A B C : Type 0) → OnOk r A → OnOk r B → (A → B → C) → OnOk r C
+both_ok (Ok value) A B C a b f = f a b
+both_ok (Err error) A B C a b f = tt
 
 -- ---- events keep the types
 

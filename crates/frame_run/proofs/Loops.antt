@@ -2,7 +2,7 @@
 use Rattle.std.proofs.Common.{◌≡◌, ℕ, ◌+◌, ◌-◌, ◌<◌, suc, Bool, List, [], ◌∷◌, ◌++◌, map, Option, refl, sym, ap, ap₂, ◌∙◌, append_assoc, arith, get_or, drop, length}
 use Rattle.std.specs.List.{flat_map, range_with_len}
 use Rattle.std.proofs.lemmas.List.Concat.{flat_map-append}
-use Rattle.std.proofs.lemmas.List.{drop_more}
+use Rattle.std.proofs.lemmas.List.{drop_more, get_or_default}
 use Rattle.world_laws.proofs.Members.{map_append}
 use Rattle.world_model.specs.World.{capacity}
 use Rattle.ent_io.specs.Text.{AppendsPrefix, Leaves, appended}
@@ -93,3 +93,7 @@ no_frame s steps k none = ap (λ (n : ℕ). flat_map (λ frame. tasks_of_steps s
 
 pub all_frames : (s : Scenario) (steps : List Step) → frames_left s steps 0 ≡ tasks_of no_files s steps
 all_frames s steps = ap (λ (n : ℕ). flat_map (λ frame. tasks_of_steps s frame steps) (range_with_len 1 n)) (let whole : s.frames - 0 ≡ s.frames = omega arith in whole)
+
+-- a step that is found with one default is found with any
+pub step_at : (steps : List Step) (k : ℕ) (d step : Step) → k < length steps → get_or steps k d ≡ step → step ≡ get_or steps k step
+step_at steps k d step below is = sym is ∙ get_or_default steps k d step below

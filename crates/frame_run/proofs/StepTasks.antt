@@ -127,3 +127,7 @@ ready_after s frame n y w u rs last q h at is runner = record {
   runners = subst (λ (archetypes : List (List ℕ)). AreRunnersOf s.registry archetypes s.system (slice_set rs n q)) (sym (ap (λ (x : WorldState). x.archetypes) is))
       (runner_put s.registry w.archetypes s.system rs n y q h.runners at (subst (λ (r : List TypeInfo). IsRunnerOf r w.archetypes y q) h.registry runner));
 }
+
+-- the next version changes no type and no archetype
+pub ready_raised : (s : Scenario) (w u : WorldState) (rs : List Runner) → u ≡ record w { world = record (w.world) { moment = next_version w.world.moment } } → IsReady s w rs → IsReady s u rs
+ready_raised s w u rs is h = subst (λ (x : WorldState). IsReady s x rs) (sym is) (record { registry = h.registry; runners = h.runners })

@@ -11,7 +11,7 @@ ghost use Rattle.frame_run.specs.Stages.{no_files};
 
 use crate::ends::RunEnd;
 use crate::runner::Runner;
-use crate::steps::do_step;
+use crate::steps::{do_events_of, run_number};
 use ent_io::Sink;
 use scenario_record::{Scenario, Step};
 use std::alloc::Global;
@@ -39,7 +39,16 @@ fn run_frame<W: Sink>(
 {
     let mut world = world;
     for step in steps {
-        world = do_step(alloc, scenario, trace, frame, *step, world, runners, out)?;
+        // The world is moved only where a system runs, since a move costs more than the other steps.
+        match *step {
+            Step::Events => do_events_of(alloc, scenario, frame, &mut world, out)?,
+            Step::Play(_) => {
+                world.raise();
+            }
+            Step::Run(number) => {
+                world = run_number(alloc, scenario, trace, frame, number, world, runners, out)?;
+            }
+        }
     }
     Ok(world)
 }

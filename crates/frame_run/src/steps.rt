@@ -1,13 +1,14 @@
-//! One step of a frame.
-ghost use Rattle.std.specs.Prelude.{◌≡◌, ◌≤◌, if◌then◌else◌, [], IfOk};
+//! The steps of a frame.
+ghost use Rattle.std.specs.Prelude.{◌≡◌, ◌≤◌, Bool, List, if◌then◌else◌, [], IfOk, OnOk};
 ghost use Rattle.ent_io.specs.End.{TextCauses};
 ghost use Rattle.ent_io.specs.Text.{Writes};
-ghost use Rattle.scenario_record.specs.declared.plan.Step.TheVariants.{Run as Runs};
+ghost use Rattle.scenario_record.specs.declared.plan.Step.TheVariants.{Events, Run as Runs};
 ghost use Rattle.run_model.specs.declared.lines.TraceLine.TheVariants.{Run as RunLine};
 ghost use Rattle.run_model.specs.Tasks.{runs_in};
 ghost use Rattle.run_laws.specs.Runnable.{IsRunnable};
 ghost use Rattle.world_text.specs.Lines.{trace_text};
 ghost use Rattle.frame_run.specs.Ending.{RunCauses};
+ghost use Rattle.frame_run.specs.declared.runner.Runner.{Runner as RunnerState};
 ghost use Rattle.frame_run.specs.Runners.{IsReady, stage_of};
 ghost use Rattle.frame_run.specs.Simple.{IsSimple};
 ghost use Rattle.frame_run.specs.Doing.{stage_after, tasks_of_step, text_of};
@@ -20,7 +21,7 @@ use ent_types::Name;
 use phase_run::SystemRun;
 use query_select::a_cache_stays_with_more_archetypes;
 use run_model::TraceLine;
-use scenario_record::{Scenario, Step, SystemEntry};
+use scenario_record::{Scenario, SystemEntry};
 use std::alloc::Global;
 use structural_ops::World;
 use world_text::write_trace;
@@ -74,47 +75,29 @@ fn trace_run<W: Sink>(
     write_run(alloc, frame, system, run, out)
 }
 
-/// Does a step of a frame, and returns the world after it. Each step goes to the next version, but a system that doesn't run in this
-/// frame does nothing.
-pub(crate) fn do_step<W: Sink>(
+/// Does the events of a frame, after the world went to the next version. The systems stay as they are.
+pub(crate) fn do_events_of<W: Sink>(
     alloc: Global,
     scenario: &Scenario,
-    trace: bool,
     frame: u32,
-    step: Step,
-    world: World,
-    runners: &mut [Runner],
+    world: &mut World,
     out: &mut W,
-) -> Result<World, RunEnd>
+) -> Result<(), RunEnd>
     requires runnable { IsRunnable scenario.now }
-    requires simple { IsSimple scenario.now }
-    requires frame { 1 ≤ frame }
-    requires ready { IsReady scenario.now world runners.old }
-    ensures ready { IfOk result (λ w. IsReady scenario.now w runners.new) }
-    ensures stage { IfOk result (λ w. stage_of w runners.new ≡ stage_after scenario.now trace (tasks_of_step scenario.now frame step) (stage_of world runners.old)) }
-    ensures text { Writes result (text_of scenario.now trace (tasks_of_step scenario.now frame step) (stage_of world runners.old)) (W.text out.old) (W.text out.new) }
+    requires types { world.old.world.registry ≡ scenario.now.registry }
+    ensures ready { OnOk result ((rs : List RunnerState) → IsReady scenario.now world.old rs → IsReady scenario.now world.new rs) }
+    ensures stage { OnOk result ((trace : Bool) (rs : List RunnerState) → stage_of world.new rs ≡ stage_after scenario.now trace (tasks_of_step scenario.now frame Events) (stage_of world.old rs)) }
+    ensures text { (trace : Bool) (rs : List RunnerState) → Writes result (text_of scenario.now trace (tasks_of_step scenario.now frame Events) (stage_of world.old rs)) (W.text out.old) (W.text out.new) }
     ensures causes { RunCauses result (W.faults out.old) (W.faults out.new) }
 {
-    match step {
-        Step::Events => {
-            let mut world = world;
-            world.raise();
-            a_cache_stays_with_more_archetypes();
-            do_events(alloc, frame, scenario.event.as_slice(), &mut world, out)?;
-            Ok(world)
-        }
-        Step::Play(_) => {
-            let mut world = world;
-            world.raise();
-            Ok(world)
-        }
-        Step::Run(number) => run_number(alloc, scenario, trace, frame, number, world, runners, out),
-    }
+    world.raise();
+    a_cache_stays_with_more_archetypes();
+    do_events(alloc, frame, scenario.event.as_slice(), world, out)
 }
 
 /// Runs the system with a number, if it runs in the frame, and writes a line of it if the run traces. A number of no system does
 /// nothing.
-fn run_number<W: Sink>(
+pub(crate) fn run_number<W: Sink>(
     alloc: Global,
     scenario: &Scenario,
     trace: bool,
