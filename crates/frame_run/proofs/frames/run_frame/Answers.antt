@@ -58,7 +58,7 @@ loop-step-preserved g c =
     let mid = g.W.Sink.text c.loop-step.out in
     let new = g.W.Sink.text c.match-step.out in
     elim c.match-step.branch [
-      in-Events+in_ok-do_events_of-in-Events b ↦
+      | in-Events+in_ok-do_events_of-in-Events b ↦
           record {
             underway = goes_on s c.args.trace whole (steps_left s c.args.frame steps k) (tasks_of_step s c.args.frame Events) (steps_left s c.args.frame steps (k + 1))
                 (next_step s c.args.frame steps k Events below (step_at steps k _ Events below b.in-Events.is)) first before old mid new inv.underway after
@@ -68,7 +68,7 @@ loop-step-preserved g c =
                 (subst (λ (rs : List Runner). IsReady s b.do_events_of.new.world rs) (sym b.runners-is) (b.in_ok-do_events_of-in-Events.ensures.ready c.loop-step.runners inv.ready));
             faults = ap g.W.Sink.faults b.out-is ∙ (b.in_ok-do_events_of-in-Events.ensures.causes ∙ inv.faults);
           }
-    | in-Play b ↦
+      | in-Play b ↦
           record {
             underway = goes_on s c.args.trace whole (steps_left s c.args.frame steps k) (tasks_of_step s c.args.frame (Play _)) (steps_left s c.args.frame steps (k + 1))
                 (next_step s c.args.frame steps k (Play _) below (step_at steps k _ (Play _) below b.in-Play.is)) first before old mid new inv.underway after
@@ -78,7 +78,7 @@ loop-step-preserved g c =
                 (ready_raised s c.loop-step.world c.match-step.world c.loop-step.runners (b.world-is ∙ b.raise.ensures.world) inv.ready);
             faults = ap g.W.Sink.faults b.out-is ∙ inv.faults;
           }
-    | in-Run+in_ok-world-in-Run b ↦
+      | in-Run+in_ok-world-in-Run b ↦
           record {
             underway = goes_on s c.args.trace whole (steps_left s c.args.frame steps k) (tasks_of_step s c.args.frame (Run b.in-Run.number)) (steps_left s c.args.frame steps (k + 1))
                 (next_step s c.args.frame steps k (Run b.in-Run.number) below (step_at steps k _ (Run b.in-Run.number) below b.in-Run.is)) first before old mid new inv.underway after
